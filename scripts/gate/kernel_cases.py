@@ -14,7 +14,8 @@ from random_sessions import Sessions
 from stack import SECTOR, Stack
 from tables import PREFIX, SPACE, TextFault, is_mapped_name, read_stack
 
-FEATURES = features_without([])
+# Leaves are whole files, so no map is bound to one.
+FEATURES = features_without(["bound-maps"])
 # More sectors of a device aren't read.
 MOST_READ = 4096
 LARGEST_LEAF = 2600

@@ -240,10 +240,11 @@ def changed_block(data):
 
 def log_told(size, requests, lost):
     """What the service of the volume has printed by its end, which may be a moment after the client's."""
-    first = list(dict.fromkeys(lost))
-    listed = "".join(f"dmstack: export v: sector {sector}: Mismatch, data block {sector // 8}\n" for sector in first)
+    first = {sector // 8: sector for sector in reversed(lost)}
+    listed = "".join(f"dmstack: export v: sector {sector}: Mismatch, data block {block}\n" for block, sector in sorted(first.items()))
     more = f"dmstack: {len(lost) - len(first)} more faulty requests\n" if len(first) < len(lost) else ""
-    log = f"dmstack: export v {size} bytes ro\n{listed}{more}dmstack: served {requests} requests of "
+    root = open("verity").read().partition(" sha256 ")[2].split()[0]
+    log = f"dmstack: export v {size} bytes ro, root {root}\n{listed}{more}dmstack: served {requests} requests of "
     lines = 4 + len(first) + bool(more)
     end = f"faults {len(lost)} requests {requests}\n"
     for _ in range(100):

@@ -38,7 +38,7 @@ def talks(chunked, failing=None, error=EIO):
             sent += request(READ, *rest)
             answer = failed_at(error, rest[0], kind=b"Device") if number == failing else e.chunks(*rest)
         elif chunked:
-            # a piece that failed once is read again, sector by sector
+            # a piece that failed once is read again, in smaller pieces
             sent += request(READ, *rest)
             answer = e.chunks(*rest, again=number == failing)
         else:

@@ -25,7 +25,7 @@ TEXTS = {
 }
 # the sectors in bytes that a piece of a READ touches at most that is answered piece by piece, and where what a BLOCK_STATUS reads
 # ends; the blocks of zeros at the ends of a piece that are holes; where what a BLOCK_STATUS reads ends, if it is of one extent
-PIECE, BLOCK, PART = 256 << 10, 4096, 64 << 10
+PIECE, BLOCK, PART, FEW = 256 << 10, 4096, 64 << 10, 8 << 9
 GREETING = MAGIC + OPTION_MAGIC + struct.pack(">H", 3)
 
 
@@ -128,7 +128,7 @@ class Export:
         return reply(data=bytes(self.content[offset : offset + length]))
 
     def chunks(self, offset, length, cookie=0x1122334455667788, df=False, again=False):
-        """The same in chunks, piece by piece unless one chunk is asked for; by sectors, where each is read again."""
+        """The same in chunks, piece by piece unless one chunk is asked for; in smaller pieces if the first is read again."""
         if length > MOST or offset + length > len(self.content):
             return failed(EINVAL, cookie)
         if not length:
@@ -170,22 +170,22 @@ class Export:
         return at
 
     def pieces(self, offset, length, cookie, again):
-        """Pieces of lines without units and data blocks. One that fails is read sector by sector, up to the one that fails; `zero`
-        lines at its beginning are a hole."""
+        """Pieces of lines without units and data blocks. One that fails is read again by pieces of 8 sectors, and one of these sector
+        by sector, up to the one that fails; `zero` lines at its beginning are a hole. The first read fails once if `again` is set."""
         at, end = offset, offset + length
-        slow = end if again else offset
+        slow = single = offset
         while at < end:
-            step = SECTOR if at < slow else PIECE
-            stop = min(end, at - at % SECTOR + step)
+            stop = min(end, at - at % SECTOR + (SECTOR if at < single else FEW if at < slow else PIECE))
             behind = self.hole_end(at, stop)
             if behind > at:
                 yield chunk(OFFSET_HOLE, struct.pack(">QI", at, behind - at), cookie, int(behind == end))
                 at = behind
-            elif not self.fails(at, stop - at):
+            elif not again and not self.fails(at, stop - at):
                 yield from self.shown(at, stop, cookie, stop == end)
                 at = stop
-            elif step == PIECE and at // SECTOR < (stop - 1) // SECTOR:
-                slow = stop
+            elif at // SECTOR < (stop - 1) // SECTOR:
+                many = (stop - 1) // SECTOR - at // SECTOR >= FEW // SECTOR
+                again, slow, single = False, stop if many else slow, single if many else stop
             else:
                 yield failed_at(EIO, at, cookie)
                 return
@@ -287,9 +287,9 @@ def faults_line(faults, requests):
     return b"faults %d requests %d\n" % (faults, requests)
 
 
-# The lines on standard error on a service, unless it is quiet: one for each export before the greeting, one for each sector that a
-# request lost and one for a failed sync, and those at its end.
-START = re.compile(rb"(?:dmstack: export [!-~]+ [0-9]+ bytes r[ow]\n)+")
+# The lines on standard error on a service of less than a minute, unless it is quiet: one for each export before the greeting, one for
+# each sector that a request lost and one for a failed sync, and those at its end.
+START = re.compile(rb"(?:dmstack: export [!-~]+ ([0-9]+) bytes (r[ow])(?:, root [0-9a-f]+)?\n)+")
 LOG = re.compile(START.pattern + rb"(?:dmstack: export [!-~]+: (?:sector [0-9]+|flush): [A-Za-z]+(?: [0-9]+|, data block [0-9]+)?\n)*(?:dmstack: [0-9]+ more faulty requests\n)?dmstack: served .*\n")
 MOST_LISTED = 60
 
@@ -425,8 +425,8 @@ class Runner(Checks):
         told = without_sentence(b"", done.stderr, done.returncode) or b""
         start = START.match(told)
         good = done.stdout == wanted and done.returncode == status and start
-        words_of_start = start[0].split() if start else [b"0", b"bytes", b"ro"]
-        counts = counts_of(sent, int(words_of_start[-3]), words_of_start[-1] == b"rw")
+        size, rights = start.groups() if start else (b"0", b"ro")
+        counts = counts_of(sent, int(size), rights == b"rw")
         good = good and told[start.end() :] == log_of(words[1], counts, lost, kind, reason_of(sent)) + (faults_line(len(lost), counts[0]) if lost else b"")
         self.count(label, good, f"differs at {at} of {len(wanted)}, status {done.returncode}, {done.stderr[:200]!r}")
 

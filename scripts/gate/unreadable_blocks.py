@@ -5,7 +5,7 @@ unreadable_blocks.py [--cases N] [--seed S] [PROGRAM]: formats images by the mod
 of the tree, and has reads of other sectors fail (scripts/gate/unreadable_sectors.c). What `verify --all` prints must be what the model says
 of blocks that can't be read or aren't good, and so must what `diff --all` prints of hash blocks. A `repair` by a whole copy must leave the formatted block wherever all hash blocks above
 it can be read, each other one as it was, and print at its end what `verify --all` prints of that; of a round with parity as many blocks come
-back as a codeword has bytes of it. So must `repair --check` of the image as it is. Where the superblock can't be read each ends so.
+back as a codeword has bytes of it, and `cat` of a `verity` line with parity returns the only lost one of a round. So must `repair --check` of the image as it is. Where the superblock can't be read each ends so.
 """
 import argparse
 import os
@@ -123,10 +123,13 @@ class Case:
                 made[place * size:(place + 1) * size] = self.whole[side][place * size:(place + 1) * size]
         return bytes(data), bytes(image)
 
-    def run(self, *words):
+    def ended(self, *words):
         listed = [f"{name} {it}" for name, bad in zip(("data", "hash"), self.bad) for it in bad]
         given = {**os.environ, "LD_PRELOAD": self.library, "UNREADABLE": " ".join(listed)}
-        done = subprocess.run([PROGRAM, *words], cwd=self.room, env=given, capture_output=True, timeout=60, check=False)
+        return subprocess.run([PROGRAM, *words], cwd=self.room, env=given, capture_output=True, timeout=60, check=False)
+
+    def run(self, *words):
+        done = self.ended(*words)
         if without_sentence(done.stdout, done.stderr, done.returncode) != b"":
             raise Wrong(f"{words[0]}: an error output: {done.stderr[:200]}")
         return done.stdout.split(b"\n")[:-1], done.returncode
@@ -178,10 +181,23 @@ class ParityCase(Case):
             data[it * block] ^= 1
         self.stands, self.parity = (bytes(data), self.whole[1]), parity_of(area, block, self.roots)
 
+    def check_read(self):
+        """A `verity` line with parity returns the one lost block of a round as formatted, and ends before the first of several."""
+        tree, sectors = self.tree, len(self.whole[0]) // SECTOR
+        count = tree.blocks + len(self.whole[1]) // tree.hash_block - tree.start
+        shape = f"{tree.data_block} {tree.hash_block} {tree.blocks} {tree.start} sha256 {self.root.hex()} {self.salt.hex()}"
+        parity = f"8 use_fec_from_device P fec_roots {self.roots} fec_blocks {count} fec_start 0"
+        save(self.room, "fec.stack", f"v,,,ro,0 {sectors} verity 1 D H {shape} {parity}\n".encode())
+        done = self.ended("cat", "fec.stack", "v", "D=ro:data", "H=ro:hash", "P=ro:parity")
+        end = len(self.whole[0]) if len(self.gone) == 1 else self.gone[0] * tree.data_block
+        self.check("cat: status", done.returncode, 0 if len(self.gone) == 1 else 3)
+        self.check("cat: as formatted", done.stdout == self.whole[0][:end], True)
+
     def tried(self):
         """As many blocks of a round as a codeword has bytes of parity come back, and of one more none is written."""
         for name, content in zip(("data", "hash", "parity"), (*self.stands, self.parity)):
             save(self.room, name, content)
+        self.check_read()
         lines, status = self.run("repair", "--fec", "parity", "--fec-roots", str(self.roots), "data", "hash", self.root.hex())
         left = load(self.room, "data"), load(self.room, "hash")
         comes_back = len(self.gone) <= self.roots

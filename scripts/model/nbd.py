@@ -4,7 +4,7 @@ import itertools
 import struct
 
 from stack import IGNORES_ZEROS, MISMATCH, SECTOR, ZEROS, Fault
-from tables import Verity
+from tables import Verity, spelled
 
 OLD_MAGIC, OPTION_MAGIC, OPTION_REPLY_MAGIC = b"NBDMAGIC", b"IHAVEOPT", 0x3E889045565A9
 REQUEST_MAGIC, SIMPLE_REPLY_MAGIC, CHUNK_MAGIC = 0x25609513, 0x67446698, 0x668E33EF
@@ -42,10 +42,12 @@ MOST_OF_AN_OPTION, MOST_OF_A_REQUEST, MOST_OPTIONS = 65536, 32 * 1024 * 1024, 10
 # Where the pieces of a READ end, and the blocks at the ends of one that are holes where they are zeros. A BLOCK_STATUS that
 # reads does so up to the end of a piece, or of a part of one where one extent is asked for, and tells zeros by such blocks.
 PIECE, PART, BLOCK = 256 * 1024, 64 * 1024, 4096
+# The most sectors of a piece that is read again.
+FEW = 8
 # The most sectors of a run of zeros that is written, and of a piece of a write.
 RUN, PUT = 2048, 128
 DONE, FAULTS, BROKEN = 0, 3, 4
-# So many faults are listed, each the first of its sector.
+# So many faults are listed in a minute, each the first of its sector or data block. A service of the comparison takes less.
 MOST_LISTED = 60
 
 
@@ -86,12 +88,18 @@ class Replies:
         return "what comes behind the last reply", at
 
 
+def root_of(device):
+    """What the line on a device says of its root hash, if its only line is a `verity` line."""
+    target = device.lines[0].target
+    return b", root " + spelled(target.digest) if len(device.lines) == 1 and isinstance(target, Verity) else b""
+
+
 class Service:
     """Serves devices of a stack, each as a run of bytes: the client says which by its name."""
 
     def __init__(self, stack, devices):
         self.stack, self.devices = stack, devices
-        self.replies, self.requests, self.moved, self.faults, self.listed = Replies(), 0, 0, 0, {}
+        self.replies, self.requests, self.moved, self.faults, self.listed = Replies(), 0, 0, 0, []
 
     def serve(self, given, is_quiet=False):
         """The replies to a whole input, and the status."""
@@ -112,8 +120,8 @@ class Service:
 
     def log(self, reason):
         """The lines on a service that isn't quiet: one on each device, those on the first faults, and at the end one on the requests."""
-        devices = [b"dmstack: export %s %d bytes %s" % (it.name, it.sectors * SECTOR, b"rw" if it.writable else b"ro") for it in self.devices]
-        listed = list(self.listed.values())[:MOST_LISTED]
+        devices = [b"dmstack: export %s %d bytes %s%s" % (it.name, it.sectors * SECTOR, b"rw" if it.writable else b"ro", root_of(it)) for it in self.devices]
+        listed = [line for _, _, line in self.listed[:MOST_LISTED]]
         left_out = self.faults - len(listed)
         more = [b"dmstack: %d more faulty requests" % left_out] if left_out > 0 else []
         counts = self.requests, self.moved, self.faults, reason
@@ -127,7 +135,8 @@ class Service:
         block = self.stack.data_block(self.device, sector) if is_alone and fault.text == MISMATCH else None
         self.faults += 1
         told = kind if block is None else b"%s, data block %d" % (kind, block)
-        self.listed.setdefault(sector, b"dmstack: export %s: sector %d: %s" % (self.device.name, sector, told))
+        if not any(sector == other or block is not None and block == met and sector // 8 == other // 8 for other, met, _ in self.listed):
+            self.listed.append((sector, block, b"dmstack: export %s: sector %d: %s" % (self.device.name, sector, told)))
         return TEXTS[kind.split()[0]] if block is None else b"data block %d fails verification" % block
 
     def lose_asked(self, command, offset, length, fault):
@@ -301,11 +310,11 @@ class Service:
     def pieces(self, at, end):
         """The chunks of a READ, piece by piece; the zeros of lines with which one begins are a hole, and aren't read.
 
-        One that fails is read sector by sector, up to the one that fails.
+        One that fails is read by pieces of a few sectors, and one of these sector by sector, up to the one that fails.
         """
-        slow = at
+        slow = single = at
         while at < end:
-            behind = self.piece_end(at, end, at < slow)
+            behind = self.piece_end(at, end, 1 if at < single else FEW if at < slow else PIECE // SECTOR)
             hole = self.zeros_end(at, behind)
             if hole > at:
                 yield hole == end, OFFSET_HOLE, struct.pack(">QI", at, hole - at)
@@ -314,18 +323,22 @@ class Service:
             try:
                 octets = self.read(at, behind - at)
             except Fault as fault:
-                if at // SECTOR == (behind - 1) // SECTOR:
+                sectors = -(-behind // SECTOR) - at // SECTOR
+                if sectors == 1:
                     yield True, ERROR_OFFSET, error_told(EIO, self.lose(at // SECTOR, fault)) + struct.pack(">Q", at)
                     return
-                slow = behind
+                if sectors > FEW:
+                    slow = behind
+                else:
+                    single = behind
                 continue
             yield from told(at, octets, behind == end)
             at = behind
 
-    def piece_end(self, at, end, single):
-        """Where the next piece ends: with its first sector, or where units and data blocks do."""
+    def piece_end(self, at, end, most):
+        """Where the next piece ends, which has at most so many sectors: where units and data blocks do."""
         first = at // SECTOR
-        count = 1 if single else self.stack.aligned_len(self.device, first, -(-end // SECTOR) - first, PIECE // SECTOR)
+        count = self.stack.aligned_len(self.device, first, -(-end // SECTOR) - first, most)
         return min(end, (first + count) * SECTOR)
 
     def zeros_end(self, at, end):

@@ -5,6 +5,7 @@ import re
 from configuration import LIMIT
 from parity import covered, parity_of
 from random_parts import Dice
+from rescue_map import text_of
 from strange_words import (
     LEAF_NAMES, NAMES, OPTION_WORDS, SIZES, STRANGE_BYTES, STRANGE_NAMES, STRANGE_NUMBERS, TARGET_WORDS,
 )
@@ -314,6 +315,8 @@ class Stacks(Dice):
         kind = self.pick([b"ro", b"rw"])
         words.append(b"%s=%s:%s" % (hashes, kind, self.new_file(image, b"tree")))
         healing = self.healing_words(words, tree, data, image) if self.has("targets", "healing") and self.chance(0.6) else []
+        if healing and self.has("forms", "bound-maps") and self.chance(0.4):
+            self.lose_sectors(words, leaf, stack.images[leaf.name].stored(0, leaf.sectors))
         texts, device, tree_device = [], leaf.name, hashes
         if offset or healing or self.chance(0.4):
             device = PREFIX + b"under"
@@ -359,6 +362,13 @@ class Stacks(Dice):
                  (b"fec_start", b"%d" % first)]
         self.random.shuffle(pairs)
         return [b" ".join(pair) for pair in pairs]
+
+    def lose_sectors(self, words, leaf, content):
+        """Binds a leaf's bytes, as a file with a map that lacks a few of its sectors."""
+        place = [word.partition(b"=")[0] for word in words].index(leaf.name)
+        lost = self.random.sample(range(leaf.sectors), min(leaf.sectors, self.pick([1, 1, 2, 3])))
+        text = text_of([at not in lost for at in range(leaf.sectors)], self.chance(0.2))
+        words[place] = b"%s=ro%%%s:%s" % (leaf.name, self.new_file(text, b"m"), self.new_file(content, b"lost"))
 
     def window(self, name, offset, sectors):
         """The lines of a device on the sectors of another one from an offset on."""

@@ -102,7 +102,7 @@ def with_map(stack, device, out, path, files, again):
         had = [it and at not in lost for at, it in enumerate(had)]
         faults = ["fault 3 Device 0" if at in lost else it for at, it in enumerate(faults)]
     if reads:
-        files.replace(path, text_of(had, of_scan, lost, tail))
+        files.replace(path, text_of(had, of_scan, tail))
     return runs_of(faults), had
 
 

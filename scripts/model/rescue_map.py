@@ -106,9 +106,7 @@ def blocks_of(marks):
     return found
 
 
-def text_of(marks, of_scan, known=(), tail=()):
-    """The map that is written: finished, and of each longest run whether it was had; what was known to be lost is in runs of its
-    own, and a scan's is marked. The tail follows."""
-    alike = [(had, not had and at in known) for at, had in enumerate(marks)]
-    lines = [b"%d %d %s" % (first * SECTOR, count * SECTOR, b"+" if had else b"-") for (had, _), first, count in blocks_of(alike)]
+def text_of(marks, of_scan, tail=()):
+    """The map that is written: finished, and of each longest run whether it was had; a scan's is marked. The tail follows."""
+    lines = [b"%d %d %s" % (first * SECTOR, count * SECTOR, b"+" if had else b"-") for had, first, count in blocks_of(marks)]
     return b"\n".join([*[SCAN_MARK] * of_scan, b"0 +", *lines, *tail, b""])

@@ -22,8 +22,8 @@ class Fault(Exception):
 
 ERROR_TARGET = "fault 1 ErrorTarget"
 MISMATCH = "fault 2 Mismatch"
-# The faults that parity can restore: those of lines, not of devices.
-HEALED = (ERROR_TARGET, MISMATCH)
+# The faults of lines, not of devices.
+OF_LINES = (ERROR_TARGET, MISMATCH)
 
 
 class MemoryImage:
@@ -93,6 +93,13 @@ class Moved:
         if writes != self.writes:
             return False
         return reads <= self.read_budget if self.open_reads else reads == self.reads
+
+
+class Row:
+    """Data blocks up to `end` that are read together, of which those before `read` were read."""
+
+    def __init__(self, first, end):
+        self.read, self.end = first, end
 
 
 class Stack:
@@ -233,8 +240,8 @@ class Stack:
         if isinstance(target, (Linear, Striped, Unstriped)):
             runs = self.lower_runs(target, at, count)
             return b"".join(self.read_run(*run) for run in runs)
-        reader = self.read_unit if isinstance(target, Crypt) else self.read_block
         size = target.unit() if isinstance(target, Crypt) else target.data_block // SECTOR
+        reader = self.read_unit if isinstance(target, Crypt) else self.block_reader(target, at, count)
         parts = []
         for unit in range(at // size, (at + count - 1) // size + 1):
             begin, end = max(at, unit * size), min(at + count, (unit + 1) * size)
@@ -252,25 +259,56 @@ class Stack:
         data = self.read_run(device, target.offset + unit * size, size)
         return xts_decrypt(target.key, self.unit_number(target, unit), data)
 
-    def read_block(self, target, block):
+    def is_clear(self, device):
+        """Whether no line of a device or beneath it fails by itself."""
+        if isinstance(device, Leaf):
+            return True
+        if any(isinstance(line.target, (Error, Verity)) for line in device.lines):
+            return False
+        return all(self.is_clear(lower) for lower in self.configuration.lowers(device))
+
+    def block_reader(self, target, at, count):
+        """What reads a data block of a run: several whole blocks are read together where no line beneath fails by itself."""
+        size = target.data_block // SECTOR
+        first, end = -(-at // size), (at + count) // size
+        together = end - first > 1 and self.is_clear(self.configuration.lower(target.device))
+        row = Row(first, end)
+        return lambda line, block: self.read_block(line, block, row if together and first <= block < end else None)
+
+    def read_block(self, target, block, row):
         """A verified data block: each hash block from the root down, then the block itself, or what parity restores."""
         tree = Tree(target.data_block, target.hash_block, target.blocks, target.start)
         hash_device = self.configuration.lower(target.hash_device)
-        expected, size = target.digest, target.hash_block // SECTOR
+        expected, size, after = target.digest, target.hash_block // SECTOR, b""
         for place, slot in tree.way(block):
             hashes = self.read_run(hash_device, place * size, size)
             if digest(target.salt, hashes) != expected:
                 raise Fault(MISMATCH)
-            expected = hashes[32 * slot:32 * slot + 32]
+            expected, after = hashes[32 * slot:32 * slot + 32], hashes[32 * slot + 32:]
         zeros = bytes(target.data_block)
         if ZERO_BLOCKS in target.options and expected == digest(target.salt, zeros):
             return zeros
+        if row:
+            self.read_row(target, block, row, after)
         try:
             return self.checked(target, self.covered(target, block), expected)
         except Fault as own:
-            if target.parity is None or own.text not in HEALED:
+            if target.parity is None:
                 raise
             return self.healed(target, block, expected, own)
+
+    def read_row(self, target, block, row, after):
+        """Reads a block together with the rest of its row, if it wasn't read with others: up to one that the last hash block on its
+        way says is ignored, or as far as that says."""
+        if block < row.read:
+            return
+        row.read = row.end
+        if ZERO_BLOCKS in target.options:
+            ignored = digest(target.salt, bytes(target.data_block))
+            others = [after[at:at + 32] for at in range(0, len(after), 32)]
+            row.read = min(row.end, block + 1 + (others.index(ignored) if ignored in others else len(others)))
+        size = target.data_block // SECTOR
+        self.read_run(self.configuration.lower(target.device), block * size, (row.read - block) * size)
 
     def checked(self, target, data, expected):
         if digest(target.salt, data) != expected:
@@ -278,11 +316,12 @@ class Stack:
         return data
 
     def healed(self, target, block, expected, own):
-        """The block that the others of its round and the parity give, if it has the digest; a failed attempt is the block's own fault."""
+        """The block that the others of its round and the parity give, if it has the digest; a failed attempt is the block's own fault,
+        unless a device failed in the attempt alone."""
         try:
             return self.checked(target, self.restored(target, block), expected)
         except Fault as fault:
-            raise own if fault.text in HEALED else fault
+            raise own if fault.text in OF_LINES or own.text not in OF_LINES else fault
 
     def covered(self, target, at):
         """Covered block `at`: the data blocks, then the hash device's from the tree on."""

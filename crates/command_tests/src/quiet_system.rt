@@ -1,8 +1,9 @@
-//! Generators that are seeded by the system, and no progress line.
+//! Generators that are seeded by the system, no progress line and no journal.
 ghost use Rattle.std.specs.Prelude.{◌≡◌};
 
 use device_adapters::{NoProgress, Progress, Watchers};
 use image_commands::{Generators, NoRandomBytes, SystemGenerators};
+use nbd_server::Journal;
 use rand::rngs::StdRng;
 use std::random::RandomSource;
 
@@ -36,5 +37,21 @@ impl<R> Watchers for QuietSystem<'_, R> {
 
     fn watcher(&self) -> NoProgress {
         NoProgress
+    }
+}
+
+impl<R> Journal for QuietSystem<'_, R> {
+    ghost use Rattle.std.specs.Prelude.{false, ⊤};
+
+    ghost priorities = { λ journal. false };
+
+    ghost shows = { λ journal seconds. Unit {0} };
+
+    fn has_priorities(&self) -> bool {
+        false
+    }
+
+    fn seconds(&self) -> u64 {
+        0
     }
 }

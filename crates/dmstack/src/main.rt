@@ -1,10 +1,12 @@
 //! The program: passes the command line, standard input and standard output to `stack_commands`.
 #![tactic(auto)]
 
+mod journal;
 mod output;
 mod system;
 
 use image_files::{FileImages, SystemCalls};
+use journal::is_journal;
 use output::Output;
 use program_io::Counted;
 use stack_commands::{CommandFault, command, end, writes_data};
@@ -28,7 +30,7 @@ fn main(rt: HostRuntime) -> ExitCode {
     let mut reader = Counted::new(rt.reader());
     let mut writer = Counted::new(buffered);
     let mut images = FileImages::new(&rt, SystemCalls::new(&rt));
-    let mut system = System::new(&rt);
+    let mut system = System::new(&rt, is_service(&rt) && is_journal(&rt));
     let status = match words_of(&rt) {
         Ok(words) => command(
             rt.alloc(),
@@ -67,25 +69,30 @@ fn end_unread<R: Env, W: Write, E: Write>(
     }
 }
 
+// The first argument, if it has at most four bytes, as the names of `cat` and `nbd` have.
+fn short_name<'b, R: Env>(rt: &R, buffer: &'b mut [u8; 4]) -> Option<&'b [u8]> {
+    let Ok(length) = rt.arg(1, buffer) else {
+        return None;
+    };
+    buffer.get(..length)
+}
+
 // Whether the output is data for another program, by the first argument.
 fn is_data<R: Env>(rt: &R) -> bool {
-    let mut buffer = [0; 4];
-    let Ok(length) = rt.arg(1, &mut buffer) else {
-        return false;
-    };
-    match buffer.get(..length) {
+    match short_name(rt, &mut [0; 4]) {
         Some(name) => writes_data(name),
         None => false,
     }
 }
 
+// Whether the command is `nbd`.
+fn is_service<R: Env>(rt: &R) -> bool {
+    short_name(rt, &mut [0; 4]) == Some(b"nbd".as_slice())
+}
+
 // Whether a failed output isn't reported: `nbd` has lines of its own, and the reader of `cat` may close it.
 fn is_silent<R: Env>(rt: &R, is_closed: bool) -> bool {
-    let mut buffer = [0; 4];
-    let Ok(length) = rt.arg(1, &mut buffer) else {
-        return false;
-    };
-    match buffer.get(..length) {
+    match short_name(rt, &mut [0; 4]) {
         Some(name) => name == b"nbd".as_slice() || is_closed && name == b"cat".as_slice(),
         None => false,
     }

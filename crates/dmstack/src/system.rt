@@ -1,27 +1,30 @@
-//! The services of the system: generators of random bytes, and the progress line.
+//! The services of the system: generators of random bytes, the progress line and the journal.
 ghost use Rattle.std.specs.Prelude.{◌≡◌};
 
 use device_adapters::{Progress, ProgressLine, Watchers};
 use image_commands::{Generators, NoRandomBytes, SystemGenerators};
+use nbd_server::Journal;
 use rand::rngs::StdRng;
 use std::random::RandomSource;
 use std::rt::Clock;
 
-/// Generators that are seeded by the system, and a progress line on standard error.
+/// Generators that are seeded by the system, a progress line on standard error, and whether that is systemd's journal.
 #[derive(Drop)]
 pub struct System<'a, R> {
     rt: &'a R,
     generators: SystemGenerators<'a, R>,
     line: ProgressLine<'a, R>,
+    is_journal: bool,
 }
 
 impl<'a, R: Clock + Eprint> System<'a, R> {
     /// Returns the services of the system.
-    pub fn new(rt: &'a R) -> System<'a, R> {
+    pub fn new(rt: &'a R, is_journal: bool) -> System<'a, R> {
         System {
             rt,
             generators: SystemGenerators::new(rt),
             line: ProgressLine::new(rt),
+            is_journal,
         }
     }
 }
@@ -55,5 +58,25 @@ impl<'a, R: Clock + Eprint> Watchers for System<'a, R> {
 
     fn watcher(&self) -> ProgressLine<'a, R> {
         ProgressLine::new(self.rt)
+    }
+}
+
+impl<R: Clock> Journal for System<'_, R> {
+    ghost use Rattle.std.specs.Prelude.{⊤};
+
+    ghost priorities = { λ system. system.is_journal };
+
+    ghost shows = { λ system seconds. Unit {0} };
+
+    fn has_priorities(&self) -> bool {
+        self.is_journal
+    }
+
+    // Of the clock that doesn't go back.
+    fn seconds(&self) -> u64 {
+        match self.rt.monotonic() {
+            Ok(time) => time.as_secs(),
+            Err(_) => 0,
+        }
     }
 }

@@ -3,7 +3,6 @@ use Rattle.std.proofs.Common.{◌≡◌, ◌<◌, ◌≤◌, ℕ, ◌+◌, ◌-�
 use Rattle.std.specs.Prelude.{◌⊎◌, ◌==◌, Bool, false, true, OnOk}
 use Rattle.std.specs.Io.KnownBytes.{Appends, Keeps}
 use Rattle.std.proofs.KnownBytes.{Appends-kept, Appends-nil, Appends-trans}
-use Rattle.std.proofs.lemmas.Bool.{cases_lt}
 use Rattle.std.proofs.lemmas.List.{drop-append-le, length-drop, length-take-le, take-append-le}
 use Rattle.program_io.specs.Counted.{CountedRecord, Grows, Writes, WritesSome, Writing}
 use Rattle.program_io.specs.declared.fault.WriteFault.{WriteFault}
@@ -24,9 +23,10 @@ use Rattle.nbd_server.specs.Premises.{AreBytesOf, IsDeliveryRest}
 use Rattle.nbd_protocol.specs.Chunks.{error_at_chunk, hole_chunk}
 use Rattle.nbd_server.specs.Content.{TellsContent}
 use Rattle.stack_rules.specs.Records.{Configuration}
-use Rattle.nbd_server.specs.Delivery.{AnswersPiece, BeginsWithZeros, Delivers, delivers_none, delivers_more, DeliversAs, DeliversPart, GoesOnReplying, IsDelivered, IsLost, AreNextBytes, IsReadPiece, IsStuck, SendsPiece, at_first, next_size}
+use Rattle.nbd_server.specs.Delivery.{AnswersPiece, BeginsWithZeros, Delivers, delivers_none, delivers_more, DeliversAs, DeliversPart, GoesOnReplying, IsDelivered, IsLost, AreNextBytes, IsReadPiece, IsStuck, SendsPiece, at_first, next_size, progress_after, progress_again}
 use Rattle.nbd_server.specs.declared.delivery.Delivery.{Delivery}
-use Rattle.nbd_server.specs.declared.delivery.Progress.{Progress}
+use Rattle.nbd_server.specs.declared.progress.Progress.{Progress}
+use Rattle.nbd_server.proofs.ProgressLemmas.{again-done, again-smaller, left_of}
 use Rattle.nbd_server.proofs.ToldLemmas.{some-told}
 
 -- ---- one read
@@ -47,10 +47,6 @@ read-config e w offset length (Ok content) w' p = p.1.read.config
 read-config e w offset length (Err error) w' p = fetch-config w e.device (offset / 512) (touched offset length) error w' p
 
 -- ---- pieces
-
--- sectors that are read one by one aren't put off again
-put_off-behind : (done slow sectors : ℕ) → 1 < sectors → (done < slow → sectors ≡ 1) → slow ≤ done
-put_off-behind done slow sectors several single = elim (cases_lt done slow) [ inl below ↦ absurd (omega (arith, several, single below)) | inr behind ↦ behind ]
 
 module _ (e : ExportRecord) (d : Delivery) where
   goes-led : (p : Progress) (w : World) (chunk : List ℕ) (next : Progress) (w' : World) → GoesOnReplying e d p w chunk next w' → IsLed EachPart w w'
@@ -73,22 +69,20 @@ module _ (e : ExportRecord) (d : Delivery) where
   pub goes-inside : (p : Progress) (w : World) (chunk : List ℕ) (next : Progress) (w' : World) → GoesOnReplying e d p w chunk next w' → next.done ≤ d.count
   goes-inside p w chunk next w' (inl s) = subst (λ (n : Progress). n.done ≤ d.count) (sym s.next_is) s.piece.next.bytes.inside
   goes-inside p w chunk next w' (inr (inr s)) = subst (λ (n : Progress). n.done ≤ d.count) (sym s.next_is) s.bytes.inside
-  goes-inside p w chunk next w' (inr (inl s)) = subst (λ (n : Progress). n.done ≤ d.count) (sym s.next_is) (omega (arith, s.piece.next.bytes.inside))
+  goes-inside p w chunk next w' (inr (inl s)) =
+      subst (λ (n : Progress). n.done ≤ d.count) (sym s.next_is) (omega (arith, s.piece.next.bytes.inside, again-done p s.size (touched (d.offset + p.done) s.size)))
 
-  pub goes-smaller : (p : Progress) (w : World) (chunk : List ℕ) (next : Progress) (w' : World) → GoesOnReplying e d p w chunk next w'
-      → 2 * (d.count - next.done) + (1 - (next.slow - next.done)) < 2 * (d.count - p.done) + (1 - (p.slow - p.done))
-  goes-smaller p w chunk next w' (inl s) =
-      subst (λ (n : Progress). 2 * (d.count - n.done) + (1 - (n.slow - n.done)) < 2 * (d.count - p.done) + (1 - (p.slow - p.done))) (sym s.next_is) (omega (arith, s.piece.next.bytes.inside, s.piece.next.bytes.some))
+  pub goes-smaller : (p : Progress) (w : World) (chunk : List ℕ) (next : Progress) (w' : World) → GoesOnReplying e d p w chunk next w' → left_of d.count next < left_of d.count p
+  goes-smaller p w chunk next w' (inl s) = subst (λ (n : Progress). left_of d.count n < left_of d.count p) (sym s.next_is) (omega (arith, s.piece.next.bytes.inside, s.piece.next.bytes.some))
   goes-smaller p w chunk next w' (inr (inl s)) =
-      subst (λ (n : Progress). 2 * (d.count - n.done) + (1 - (n.slow - n.done)) < 2 * (d.count - p.done) + (1 - (p.slow - p.done))) (sym s.next_is) (omega (arith, s.piece.next.bytes.some, put_off-behind p.done p.slow (touched (d.offset + p.done) s.size) s.several s.piece.next.single))
-  goes-smaller p w chunk next w' (inr (inr s)) =
-      subst (λ (n : Progress). 2 * (d.count - n.done) + (1 - (n.slow - n.done)) < 2 * (d.count - p.done) + (1 - (p.slow - p.done))) (sym s.next_is) (omega (arith, s.bytes.inside, s.bytes.some))
+      subst (λ (n : Progress). left_of d.count n < left_of d.count p) (sym s.next_is) (again-smaller d.count p s.size (touched (d.offset + p.done) s.size) s.piece.next.bytes.some s.several s.piece.next.small)
+  goes-smaller p w chunk next w' (inr (inr s)) = subst (λ (n : Progress). left_of d.count n < left_of d.count p) (sym s.next_is) (omega (arith, s.bytes.inside, s.bytes.some))
 
 -- ---- what comes of a piece
 
--- bytes up to the end of a sector lie in it
-pub single-touched : (at place size room : ℕ) → at ≡ place → 0 < size → size ≤ room → at % 512 + room ≤ 512 → touched place size ≡ 1
-single-touched at place size room is some few within = omega (arith, is, some, few, within)
+-- bytes up to the end of some sectors lie in them
+pub few-touched : (at place size room sectors : ℕ) → at ≡ place → size ≤ room → at % 512 + room ≤ 512 * sectors → touched place size ≤ sectors
+few-touched at place size room sectors is few within = omega (arith, is, few, within)
 
 -- the first of the next bytes
 pub piece-part : (d : Delivery) (p : Progress) (size part : ℕ) → AreNextBytes d p size → 0 < part → part ≤ size → AreNextBytes d p part
@@ -128,7 +122,7 @@ module _ (e : ExportRecord) (d : Delivery) (p : Progress) (w w' : World) (size a
 
   module _ (old new : Option (List ℕ)) where
     hole-goes : size ≤ next_size w.stack.config e.device d p → TouchZeros w.stack.config e at size → BeginsWithZeros w.stack.config e at (next_size w.stack.config e.device d p) size → w' ≡ w
-        → GoesOnReplying e d p w (hole_chunk (p.done + size == d.count) d.cookie (d.offset + p.done) size) (record { done = p.done + size; slow = p.slow }) w'
+        → GoesOnReplying e d p w (hole_chunk (p.done + size == d.count) d.cookie (d.offset + p.done) size) (progress_after p size) w'
     hole-goes front zeros status same = inr (inr (record {
       size = size;
       bytes = piece;
@@ -142,16 +136,16 @@ module _ (e : ExportRecord) (d : Delivery) (p : Progress) (w w' : World) (size a
 
     -- it is a hole
     pub piece-hole : size ≤ next_size w.stack.config e.device d p → TouchZeros w.stack.config e at size → BeginsWithZeros w.stack.config e at (next_size w.stack.config e.device d p) size → w' ≡ w → Appends old new (hole_chunk (p.done + size == d.count) d.cookie (d.offset + p.done) size)
-        → AnswersPiece e d p w w' old new (Ok (record { done = p.done + size; slow = p.slow }))
+        → AnswersPiece e d p w w' old new (Ok (progress_after p size))
     piece-hole front zeros status same a = (hole_chunk (p.done + size == d.count) d.cookie (d.offset + p.done) size, hole-goes front zeros status same, a)
 
     pub hole-stuck : size ≤ next_size w.stack.config e.device d p → TouchZeros w.stack.config e at size → BeginsWithZeros w.stack.config e at (next_size w.stack.config e.device d p) size → w' ≡ w → SendsPiece e d p w w'
-    hole-stuck front zeros status same = inl (hole_chunk (p.done + size == d.count) d.cookie (d.offset + p.done) size, record { done = p.done + size; slow = p.slow }, hole-goes front zeros status same)
+    hole-stuck front zeros status same = inl (hole_chunk (p.done + size == d.count) d.cookie (d.offset + p.done) size, progress_after p size, hole-goes front zeros status same)
 
 module _ (e : ExportRecord) (d : Delivery) (p : Progress) (w w' : World) (size at : ℕ) (place : at ≡ d.offset + p.done) (piece : IsReadPiece w.stack.config e d p size) where
   module _ (old new : Option (List ℕ)) where
     sent-goes : (n : ℕ) → n ≡ size → (content chunk : List ℕ) → ReadsExport e w at size (Ok content) w' → TellsContent d.cookie (p.done + n == d.count) (d.offset + p.done) content chunk
-        → GoesOnReplying e d p w chunk (record { done = p.done + size; slow = p.slow }) w'
+        → GoesOnReplying e d p w chunk (progress_after p size) w'
     sent-goes n is content chunk reads told = inl (record {
       size = size;
       content = content;
@@ -163,11 +157,11 @@ module _ (e : ExportRecord) (d : Delivery) (p : Progress) (w w' : World) (size a
 
     -- it was read
     pub piece-sent : (n : ℕ) → n ≡ size → (content : List ℕ) → ReadsExport e w at size (Ok content) w' → Grows old new (TellsContent d.cookie (p.done + n == d.count) (d.offset + p.done) content)
-        → AnswersPiece e d p w w' old new (Ok (record { done = p.done + size; slow = p.slow }))
+        → AnswersPiece e d p w w' old new (Ok (progress_after p size))
     piece-sent n is content reads a = (a.text, sent-goes n is content a.text reads a.holds, a.written)
 
     -- it wasn't, and lies in several sectors
-    pub piece-put_off : (error : Failure) → ReadsExport e w at size (Err error) w' → 1 < touched at size → new ≡ old → AnswersPiece e d p w w' old new (Ok (record { done = p.done; slow = p.done + size }))
+    pub piece-put_off : (error : Failure) → ReadsExport e w at size (Err error) w' → 1 < touched at size → new ≡ old → AnswersPiece e d p w w' old new (Ok (progress_again p size (touched at size)))
     piece-put_off error reads several same = (
       [],
       inr (inl (record {
@@ -177,7 +171,7 @@ module _ (e : ExportRecord) (d : Delivery) (p : Progress) (w w' : World) (size a
         several = subst (λ (k : ℕ). 1 < touched k size) place several;
         reads = subst (λ (k : ℕ). ReadsExport e w k size (Err error) w') place reads;
         silent = refl;
-        next_is = refl;
+        next_is = ap (λ (k : ℕ). progress_again p size (touched k size)) place;
       })),
       subst (λ (o : Option (List ℕ)). Appends old o []) (sym same) (Appends-nil old),
     )
@@ -200,7 +194,7 @@ module _ (e : ExportRecord) (d : Delivery) (p : Progress) (w w' : World) (size a
     pub sent-stuck : (content : List ℕ) → 0 < length content → ReadsExport e w at size (Ok content) w' → SendsPiece e d p w w'
     sent-stuck content some reads =
         let told = some-told d.cookie (p.done + size == d.count) (d.offset + p.done) content some in
-        inl (told.text, record { done = p.done + size; slow = p.slow }, sent-goes size refl content told.text reads told.tells)
+        inl (told.text, progress_after p size, sent-goes size refl content told.text reads told.tells)
 
     pub lost-stuck : (error : Failure) → ReadsExport e w at size (Err error) w' → touched at size ≤ 1 → SendsPiece e d p w w'
     lost-stuck error reads few = inr (error_at_chunk d.cookie at (reported_error error) (failure_text error), (piece-lost error reads few).0)

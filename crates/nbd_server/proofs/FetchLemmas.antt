@@ -59,16 +59,16 @@ whole-ok : (w w' : World) (d first count len : ℕ) (bytes : List ℕ) → EachB
     → Step EachPart w (read_bytes d first len (Ok (Ok bytes))) w' → IsFetched w d first count bytes w'
 whole-ok w w' d first count len bytes p kept pieces s = record {
   chains = p.any.may.chains;
-  read = record { config = p.any.config; capacity = p.any.capacity; moved = p.any.moved; may = p.any.may.read; touches = touches-as (Ok _) tt p.any.touches; fails = p.any.fails; kept = kept; exact = λ steady. (p.steady steady).exact };
+  read = record { config = p.any.config; capacity = p.any.capacity; moved = p.any.moved; may = p.any.may.read; touches = touches-as (Ok _) tt p.any.touches; fails = p.any.fails; kept = kept; exact = λ sure. (p.steady (record { steady = sure.steady; agrees = sure.agrees })).exact };
   pieces = pieces;
   good = p.any.may.good;
   led = led-one EachPart w (read_bytes d first len (Ok (Ok bytes))) w' s;
 }
 
 whole-err : (w w' : World) (d first count : ℕ) (fault : IoFault) → EachBytes w.stack d first count (Err fault) w'.stack → ReadKeeps w.stack d first count w'.stack → ReadsWhole w.stack (range_at d first count) (Err fault) w'.stack
-whole-err w w' d first count (io.Stack fault) p kept = record { config = p.any.config; capacity = p.any.capacity; moved = p.any.moved; may = p.any.may; touches = touches-as (Err _) p.any.touches.fault p.any.touches; fails = p.any.fails; kept = kept; exact = λ steady. (p.steady steady).exact }
-whole-err w w' d first count (io.Device i) p kept = record { config = p.any.config; capacity = p.any.capacity; moved = p.any.moved; may = p.any.may; touches = touches-as (Err _) p.any.touches.fault p.any.touches; fails = p.any.fails; kept = kept; exact = λ steady. tt }
-whole-err w w' d first count io.NoMemory p kept = record { config = p.any.config; capacity = p.any.capacity; moved = p.any.moved; may = p.any.may; touches = touches-as (Err io.NoMemory) tt p.any.touches; fails = p.any.fails; kept = kept; exact = λ steady. tt }
+whole-err w w' d first count (io.Stack fault) p kept = record { config = p.any.config; capacity = p.any.capacity; moved = p.any.moved; may = p.any.may; touches = touches-as (Err _) p.any.touches.fault p.any.touches; fails = p.any.fails; kept = kept; exact = λ sure. (p.steady (record { steady = sure.steady; agrees = sure.agrees })).exact }
+whole-err w w' d first count (io.Device i) p kept = record { config = p.any.config; capacity = p.any.capacity; moved = p.any.moved; may = p.any.may; touches = touches-as (Err _) p.any.touches.fault p.any.touches; fails = p.any.fails; kept = kept; exact = λ sure. tt }
+whole-err w w' d first count io.NoMemory p kept = record { config = p.any.config; capacity = p.any.capacity; moved = p.any.moved; may = p.any.may; touches = touches-as (Err io.NoMemory) tt p.any.touches; fails = p.any.fails; kept = kept; exact = λ sure. tt }
 
 module _ (w w' : World) (d first count len : ℕ) (all : len ≡ count * 512) where
   sectors-are : len / 512 ≡ count

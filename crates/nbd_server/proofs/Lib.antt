@@ -1,6 +1,8 @@
+pub mod lemmas
 pub mod ByteLemmas
 pub mod ContentLemmas
 pub mod ToldLemmas
+pub mod ProgressLemmas
 pub mod DeliveryLemmas
 pub mod FetchLemmas
 pub mod FlushLemmas
@@ -17,3 +19,4 @@ mod DataBlockLemmas
 pub mod LocatingLemmas
 pub mod LogLemmas
 pub mod FaultLineLemmas
+pub mod ReportLemmas

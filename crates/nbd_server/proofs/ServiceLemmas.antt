@@ -32,7 +32,8 @@ use Rattle.nbd_protocol.specs.Streaming.{Spoken}
 use Rattle.nbd_protocol.specs.declared.header.Header.{Header}
 use Rattle.nbd_server.specs.Delivery.{delivery_of}
 use Rattle.nbd_server.specs.declared.delivery.Delivery.{Delivery}
-use Rattle.nbd_server.specs.Service.{AnswersOption, BeginsMessage, Conversation, begins, goes_on, EndsTurn, IsInterrupted, IsService, IsLastRequest, IsServedRequest, IsUnanswered, GivesReply, TakesMessage, message_log, log_before, log_of}
+use Rattle.nbd_server.specs.Service.{AnswersOption, BeginsMessage, Conversation, begins, goes_on, EndsTurn, IsInterrupted, IsService, IsLastRequest, IsServedRequest, IsUnanswered, GivesReply, TakesMessage, faults_before, faults_of, message_faults, message_log, log_before, log_of}
+use Rattle.nbd_server.specs.declared.first_faults.FirstFault.{FirstFault}
 use Rattle.nbd_server.specs.Logs.{no_log}
 use Rattle.nbd_server.specs.declared.session_end.SessionEnd.TheVariants.{Ended, Gone}
 use Rattle.nbd_server.specs.declared.session_log.SessionLog.{SessionLog}
@@ -42,25 +43,36 @@ use Rattle.nbd_server.proofs.ReadStatusLemmas.{status-config}
 use Rattle.nbd_server.proofs.RunLemmas.{begun-led, talk-led}
 use Rattle.request_queue.proofs.lemmas.LedLemmas.{led-then}
 
--- the messages so far, the greeting and their replies, and their log
-abbrev pub IsTalk : List ExportRecord → World → Phase → World → SessionLog → List ℕ → List ℕ → Type 0
-IsTalk es first phase now log taken written = (replies : List ℕ) × (talk : Conversation es first phase now taken replies) × (written ≡ greeting ++ replies) × (log ≡ log_of talk)
+-- what is said of a list of faults
+abbrev Reporting : Type 1
+Reporting = List FirstFault → Type 0
 
-abbrev pub BusyOr : List ExportRecord → World → Phase → World → SessionLog → Streams → Streams → Type 0
-BusyOr es first phase now log old new = Spoken old new (IsTalk es first phase now log)
+-- the messages so far, the greeting and their replies, their log and the report of their faults
+abbrev pub IsTalk : List ExportRecord → World → Phase → World → SessionLog → Reporting → List ℕ → List ℕ → Type 0
+IsTalk es first phase now log Reports taken written =
+    (replies : List ℕ) × (talk : Conversation es first phase now taken replies) × (written ≡ greeting ++ replies) × (log ≡ log_of talk) × Reports (faults_of talk)
 
-pub held-starts : (es : List ExportRecord) (first : World) (log : SessionLog) (input output output' : Option (List ℕ)) → log ≡ no_log → Appends output output' greeting
-    → BusyOr es first Greeted first log (streams input output) (streams input output')
-held-starts es first log input output output' none a = record { taken = []; written = greeting; consumed = Consumes-nil input; appended = a; holds = ([], begins, sym (append-nil greeting), none) }
+abbrev pub BusyOr : List ExportRecord → World → Phase → World → SessionLog → Reporting → Streams → Streams → Type 0
+BusyOr es first phase now log Reports old new = Spoken old new (IsTalk es first phase now log Reports)
+
+pub held-starts : (es : List ExportRecord) (first : World) (log : SessionLog) (Reports : Reporting) (input output output' : Option (List ℕ)) → log ≡ no_log → Reports [] → Appends output output' greeting
+    → BusyOr es first Greeted first log Reports (streams input output) (streams input output')
+held-starts es first log Reports input output output' none reported a = record { taken = []; written = greeting; consumed = Consumes-nil input; appended = a; holds = ([], begins, sym (append-nil greeting), none, reported) }
 
 -- what was kept back is handed on
-pub held-kept : {es : List ExportRecord} {first now : World} {phase : Phase} {log : SessionLog} {old : Streams} (input output output' : Option (List ℕ)) → BusyOr es first phase now log old (streams input output) → Keeps output output'
-    → BusyOr es first phase now log old (streams input output')
-held-kept {old = old} input output output' h k = record { taken = h.taken; written = h.written; consumed = h.consumed; appended = Appends-kept old.output output output' h.written h.appended k; holds = h.holds }
+pub held-kept : {es : List ExportRecord} {first now : World} {phase : Phase} {log : SessionLog} {old : Streams} (Reports : Reporting) (input output output' : Option (List ℕ)) → BusyOr es first phase now log Reports old (streams input output) → Keeps output output'
+    → BusyOr es first phase now log Reports old (streams input output')
+held-kept {old = old} Reports input output output' h k = record { taken = h.taken; written = h.written; consumed = h.consumed; appended = Appends-kept old.output output output' h.written h.appended k; holds = h.holds }
 
-pub held-more : {es : List ExportRecord} {first now : World} {phase : Phase} {log : SessionLog} {old mid : Streams} (next : Phase) (now' : World) (log' : SessionLog) (new : Streams) → BusyOr es first phase now log old mid
-    → EndsTurn es phase now now' log log' mid new (Ok (Some next)) → BusyOr es first next now' log' old new
-held-more {es = es} {now = now} {phase = phase} {old = old} {mid = mid} next now' log' new h t = record {
+-- the same with another report of the faults
+pub held-as : {es : List ExportRecord} {first now : World} {phase : Phase} {log : SessionLog} {old new : Streams} (Reports Reports' : Reporting) → BusyOr es first phase now log Reports old new
+    → ((faults : List FirstFault) → Reports faults → Reports' faults) → BusyOr es first phase now log Reports' old new
+held-as Reports Reports' h implies = record { taken = h.taken; written = h.written; consumed = h.consumed; appended = h.appended; holds = (h.holds.0, h.holds.1, h.holds.2, h.holds.3, implies (faults_of h.holds.1) h.holds.4) }
+
+pub held-more : {es : List ExportRecord} {first now : World} {phase : Phase} {log : SessionLog} {old mid : Streams} (Reports Reports' : Reporting) (next : Phase) (now' : World) (log' : SessionLog) (new : Streams)
+    → BusyOr es first phase now log Reports old mid → (t : EndsTurn es phase now now' log log' mid new (Ok (Some next)))
+    → ((faults : List FirstFault) → Reports faults → Reports' (faults ++ message_faults es phase now t.taken t.written next now' t.holds.0)) → BusyOr es first next now' log' Reports' old new
+held-more {es = es} {now = now} {phase = phase} {old = old} {mid = mid} Reports Reports' next now' log' new h t reports = record {
   taken = h.taken ++ t.taken;
   written = h.written ++ t.written;
   consumed = Consumes-trans old.input mid.input new.input h.taken t.taken h.consumed t.consumed;
@@ -70,15 +82,16 @@ held-more {es = es} {now = now} {phase = phase} {old = old} {mid = mid} next now
     goes_on t.taken t.written h.holds.1 t.holds.0,
     ap (λ l. l ++ t.written) h.holds.2 ∙ append_assoc greeting h.holds.0 t.written,
     t.holds.1 ∙ ap (λ (x : SessionLog). message_log es phase now t.taken t.written next now' t.holds.0 x) h.holds.3,
+    reports (faults_of h.holds.1) h.holds.4,
   );
 }
 
 -- it went away between two messages
-pub held-none : {es : List ExportRecord} {first now : World} {phase : Phase} {log : SessionLog} {old mid : Streams} (now' : World) (log' : SessionLog) (new : Streams) → phase ≢ Over → BusyOr es first phase now log old mid
-    → EndsTurn es phase now now' log log' mid new (Ok None) → IsService es first now' old new log' (Ok Gone)
-held-none {es = es} {first = first} {now = now} {phase = phase} {log = log} {old = old} {mid = mid} now' log' new going h t =
+pub held-none : {es : List ExportRecord} {first now : World} {phase : Phase} {log : SessionLog} {Reports : Reporting} {old mid : Streams} (now' : World) (log' : SessionLog) (new : Streams) → phase ≢ Over
+    → BusyOr es first phase now log Reports old mid → EndsTurn es phase now now' log log' mid new (Ok None) → IsService es first now' old new log' Reports (Ok Gone)
+held-none {es = es} {first = first} {now = now} {phase = phase} {log = log} {Reports = Reports} {old = old} {mid = mid} now' log' new going h t =
     let none = t.0.0 in
-    let talk = subst (λ (x : World). IsTalk es first phase x log h.taken h.written) (sym none.holds.2) h.holds in
+    let talk = subst (λ (x : World). IsTalk es first phase x log Reports h.taken h.written) (sym none.holds.2) h.holds in
     record {
       held = λ other. record {
         taken = h.taken ++ none.taken;
@@ -92,6 +105,7 @@ held-none {es = es} {first = first} {now = now} {phase = phase} {log = log} {old
           rest = none.taken;
           talk = talk.1;
           logged_is = t.1 ∙ talk.3;
+          reported = talk.4;
           taken_is = refl;
           written_is = ap (λ l. h.written ++ l) none.holds.1 ∙ append-nil h.written ∙ talk.2;
           ends = (none.holds.0, going, t.0.1);
@@ -102,9 +116,9 @@ held-none {es = es} {first = first} {now = now} {phase = phase} {log = log} {old
     }
 
 -- the service ends in a message, for another fault than the writer's
-ends-in : {es : List ExportRecord} {first now : World} {phase : Phase} {log : SessionLog} {old mid : Streams} (now' : World) (log' : SessionLog) (new : Streams) (x : ServiceFault) → x ≢ fault.WriteFault → BusyOr es first phase now log old mid
-    → log' ≡ log → Spoken mid new (λ taken written. (written ≡ []) × (now' ≡ now) × Breaks es phase taken new.input x) → IsService es first now' old new log' (Err x)
-ends-in {es = es} {first = first} {now = now} {phase = phase} {log = log} {old = old} {mid = mid} now' log' new x apart h same t = let talk = subst (λ (y : World). IsTalk es first phase y log h.taken h.written) (sym t.holds.1) h.holds in record {
+ends-in : {es : List ExportRecord} {first now : World} {phase : Phase} {log : SessionLog} {Reports : Reporting} {old mid : Streams} (now' : World) (log' : SessionLog) (new : Streams) (x : ServiceFault) → x ≢ fault.WriteFault
+    → BusyOr es first phase now log Reports old mid → log' ≡ log → Spoken mid new (λ taken written. (written ≡ []) × (now' ≡ now) × Breaks es phase taken new.input x) → IsService es first now' old new log' Reports (Err x)
+ends-in {es = es} {first = first} {now = now} {phase = phase} {log = log} {Reports = Reports} {old = old} {mid = mid} now' log' new x apart h same t = let talk = subst (λ (y : World). IsTalk es first phase y log Reports h.taken h.written) (sym t.holds.1) h.holds in record {
   held = λ other. record {
     taken = h.taken ++ t.taken;
     written = h.written ++ t.written;
@@ -117,6 +131,7 @@ ends-in {es = es} {first = first} {now = now} {phase = phase} {log = log} {old =
       rest = t.taken;
       talk = talk.1;
       logged_is = same ∙ talk.3;
+      reported = talk.4;
       taken_is = refl;
       written_is = ap (λ l. h.written ++ l) t.holds.0 ∙ append-nil h.written ∙ talk.2;
       ends = t.holds.2;
@@ -129,9 +144,9 @@ ends-in {es = es} {first = first} {now = now} {phase = phase} {log = log} {old =
 -- ---- the writer failed
 
 -- those messages were taken and done
-stuck : {es : List ExportRecord} {first last : World} {phase : Phase} {old new : Streams} (log : SessionLog) (whole replies : List ℕ) → Consumes old.input new.input whole → (talk : Conversation es first phase last whole replies)
-    → log ≡ log_before talk → IsService es first last old new log (Err fault.WriteFault)
-stuck {last = last} {phase = phase} {old = old} {new = new} log whole replies c talk logged_is = record {
+stuck : {es : List ExportRecord} {first last : World} {phase : Phase} {Reports : Reporting} {old new : Streams} (log : SessionLog) (whole replies : List ℕ) → Consumes old.input new.input whole → (talk : Conversation es first phase last whole replies)
+    → log ≡ log_before talk → Reports (faults_before talk) → IsService es first last old new log Reports (Err fault.WriteFault)
+stuck {last = last} {phase = phase} {old = old} {new = new} log whole replies c talk logged_is reported = record {
   held = λ other. absurd (other refl);
   done = λ is. record {
     phase = phase;
@@ -141,15 +156,15 @@ stuck {last = last} {phase = phase} {old = old} {new = new} log whole replies c 
     rest = [];
     consumed = subst (λ (l : List ℕ). Consumes old.input new.input l) (sym (append-nil whole)) c;
     talk = talk;
-    ends = inl (refl, refl, logged_is);
+    ends = inl (refl, refl, logged_is, reported);
   };
   led = talk-led talk;
 }
 
 -- and the reply to another one was begun
-stuck-begun : {es : List ExportRecord} {first mid : World} {phase : Phase} (last : World) (old new : Streams) (log : SessionLog) (whole replies rest : List ℕ) → Consumes old.input new.input (whole ++ rest) → (talk : Conversation es first phase mid whole replies)
-    → log ≡ log_of talk → BeginsMessage es phase mid rest last → IsService es first last old new log (Err fault.WriteFault)
-stuck-begun {es = es} {first = first} {mid = mid} {phase = phase} last old new log whole replies rest c talk logged_is begun = record {
+stuck-begun : {es : List ExportRecord} {first mid : World} {phase : Phase} {Reports : Reporting} (last : World) (old new : Streams) (log : SessionLog) (whole replies rest : List ℕ) → Consumes old.input new.input (whole ++ rest) → (talk : Conversation es first phase mid whole replies)
+    → log ≡ log_of talk → Reports (faults_of talk) → BeginsMessage es phase mid rest last → IsService es first last old new log Reports (Err fault.WriteFault)
+stuck-begun {es = es} {first = first} {mid = mid} {phase = phase} last old new log whole replies rest c talk logged_is reported begun = record {
   held = λ other. absurd (other refl);
   done = λ is. record {
     phase = phase;
@@ -159,27 +174,27 @@ stuck-begun {es = es} {first = first} {mid = mid} {phase = phase} last old new l
     rest = rest;
     consumed = c;
     talk = talk;
-    ends = inr (begun, logged_is);
+    ends = inr (begun, logged_is, reported);
   };
   led = led-then EachPart first mid last (talk-led talk) (begun-led es phase mid rest last begun);
 }
 
 -- in the greeting
-pub held-unsaid : (es : List ExportRecord) (first : World) (log : SessionLog) (input output output' : Option (List ℕ)) → log ≡ no_log → IsService es first first (streams input output) (streams input output') log (Err fault.WriteFault)
-held-unsaid es first log input output output' none = stuck {old = streams input output} {new = streams input output'} log [] [] (Consumes-nil input) begins none
+pub held-unsaid : (es : List ExportRecord) (first : World) (log : SessionLog) (Reports : Reporting) (input output output' : Option (List ℕ)) → log ≡ no_log → Reports [] → IsService es first first (streams input output) (streams input output') log Reports (Err fault.WriteFault)
+held-unsaid es first log Reports input output output' none reported = stuck {Reports = Reports} {old = streams input output} {new = streams input output'} log [] [] (Consumes-nil input) begins none reported
 
 -- in a reply
-held-fails : {es : List ExportRecord} {first now : World} {phase : Phase} {log : SessionLog} {old mid : Streams} (now' : World) (log' : SessionLog) (new : Streams) → BusyOr es first phase now log old mid → log' ≡ log
-    → IsUnanswered es phase now now' mid.input new.input ⊎ IsInterrupted es phase now now' mid.input new.input → IsService es first now' old new log' (Err fault.WriteFault)
-held-fails {old = old} {mid = mid} now' log' new h same (inl t) =
-    stuck {old = old} {new = new} log' (h.taken ++ t.message) (h.holds.0 ++ t.reply) (Consumes-trans old.input mid.input new.input h.taken t.message h.consumed t.consumed) (goes_on t.message t.reply h.holds.1 t.takes) (same ∙ h.holds.3)
-held-fails {old = old} {mid = mid} now' log' new h same (inr t) =
-    stuck-begun now' old new log' h.taken h.holds.0 t.message (Consumes-trans old.input mid.input new.input h.taken t.message h.consumed t.consumed) h.holds.1 (same ∙ h.holds.3) t.begins
+held-fails : {es : List ExportRecord} {first now : World} {phase : Phase} {log : SessionLog} {Reports : Reporting} {old mid : Streams} (now' : World) (log' : SessionLog) (new : Streams) → BusyOr es first phase now log Reports old mid → log' ≡ log
+    → IsUnanswered es phase now now' mid.input new.input ⊎ IsInterrupted es phase now now' mid.input new.input → IsService es first now' old new log' Reports (Err fault.WriteFault)
+held-fails {Reports = Reports} {old = old} {mid = mid} now' log' new h same (inl t) =
+    stuck {Reports = Reports} {old = old} {new = new} log' (h.taken ++ t.message) (h.holds.0 ++ t.reply) (Consumes-trans old.input mid.input new.input h.taken t.message h.consumed t.consumed) (goes_on t.message t.reply h.holds.1 t.takes) (same ∙ h.holds.3) h.holds.4
+held-fails {Reports = Reports} {old = old} {mid = mid} now' log' new h same (inr t) =
+    stuck-begun {Reports = Reports} now' old new log' h.taken h.holds.0 t.message (Consumes-trans old.input mid.input new.input h.taken t.message h.consumed t.consumed) h.holds.1 (same ∙ h.holds.3) h.holds.4 t.begins
 
 -- ---- any fault
 
-pub held-ends : {es : List ExportRecord} {first now : World} {phase : Phase} {log : SessionLog} {old mid : Streams} (now' : World) (log' : SessionLog) (new : Streams) (x : ServiceFault) → BusyOr es first phase now log old mid
-    → EndsTurn es phase now now' log log' mid new (Err x) → IsService es first now' old new log' (Err x)
+pub held-ends : {es : List ExportRecord} {first now : World} {phase : Phase} {log : SessionLog} {Reports : Reporting} {old mid : Streams} (now' : World) (log' : SessionLog) (new : Streams) (x : ServiceFault) → BusyOr es first phase now log Reports old mid
+    → EndsTurn es phase now now' log log' mid new (Err x) → IsService es first now' old new log' Reports (Err x)
 held-ends now' log' new fault.Lost h t = ends-in now' log' new fault.Lost (λ is. (cc)) h t.1 t.0
 held-ends now' log' new fault.Magic h t = ends-in now' log' new fault.Magic (λ is. (cc)) h t.1 t.0
 held-ends now' log' new fault.Flags h t = ends-in now' log' new fault.Flags (λ is. (cc)) h t.1 t.0
@@ -189,12 +204,12 @@ held-ends now' log' new fault.ReadFault h t = ends-in now' log' new fault.ReadFa
 held-ends {old = old} {mid = mid} now' log' new fault.WriteFault h t = held-fails {old = old} {mid = mid} now' log' new h t.1 t.0
 
 -- the reader was called too often
-pub held-stops : {es : List ExportRecord} {first now : World} {phase : Phase} {log : SessionLog} {old : Streams} (new : Streams) → BusyOr es first phase now log old new → IsService es first now old new log (Err fault.ReadFault)
+pub held-stops : {es : List ExportRecord} {first now : World} {phase : Phase} {log : SessionLog} {Reports : Reporting} {old : Streams} (new : Streams) → BusyOr es first phase now log Reports old new → IsService es first now old new log Reports (Err fault.ReadFault)
 held-stops {now = now} {log = log} new h =
     ends-in {mid = new} now log new fault.ReadFault (λ is. (cc)) h refl (record { taken = []; written = []; consumed = Consumes-nil new.input; appended = Appends-nil new.output; holds = (refl, refl, inl refl) })
 
 -- the client has ended it
-pub held-over : {es : List ExportRecord} {first now : World} {phase : Phase} {log : SessionLog} {old new : Streams} → BusyOr es first phase now log old new → phase ≡ Over → IsService es first now old new log (Ok Ended)
+pub held-over : {es : List ExportRecord} {first now : World} {phase : Phase} {log : SessionLog} {Reports : Reporting} {old new : Streams} → BusyOr es first phase now log Reports old new → phase ≡ Over → IsService es first now old new log Reports (Ok Ended)
 held-over {phase = phase} h over = record {
   held = λ other. record {
     taken = h.taken;
@@ -208,6 +223,7 @@ held-over {phase = phase} h over = record {
       rest = [];
       talk = h.holds.1;
       logged_is = h.holds.3;
+      reported = h.holds.4;
       taken_is = sym (append-nil h.taken);
       written_is = h.holds.2;
       ends = (refl, over);

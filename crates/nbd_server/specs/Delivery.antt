@@ -1,6 +1,6 @@
 -- A READ whose reply is sent piece by piece: each piece is sent as soon as it is read (the protocol's document, "Structured
 -- reply types": OFFSET_DATA, OFFSET_HOLE and ERROR_OFFSET).
-use Rattle.std.specs.Prelude.{◌≡◌, ◌⊎◌, ◌<◌, ◌≤◌, ℕ, ◌+◌, ◌-◌, ◌*◌, ◌/◌, ◌%◌, ◌==◌, ◌&&◌, min, Bool, true, false, not, nat_lt, List, [], ◌++◌, Option, Some, None, Result, Ok, Err, if◌then◌else◌}
+use Rattle.std.specs.Prelude.{◌≡◌, ◌⊎◌, ◌<◌, ◌≤◌, ℕ, ◌+◌, ◌-◌, ◌*◌, ◌/◌, ◌%◌, ◌==◌, ◌&&◌, min, Bool, true, not, nat_lt, List, [], ◌++◌, Option, Some, None, Result, Ok, Err, if◌then◌else◌}
 use mathlib.Core.Logic.{inl, inr}
 use Rattle.std.specs.Io.KnownBytes.{Appends}
 use Rattle.program_io.specs.Counted.{CountedRecord, Grows}
@@ -24,7 +24,7 @@ use Rattle.nbd_server.specs.declared.failure.Failure.{Failure}
 use Rattle.nbd_server.specs.declared.first_faults.SectorFault.{SectorFault}
 use Rattle.nbd_server.specs.Transmission.{ReadsExport}
 use Rattle.nbd_server.specs.declared.delivery.Delivery.{Delivery}
-use Rattle.nbd_server.specs.declared.delivery.Progress.{Progress}
+use Rattle.nbd_server.specs.declared.progress.Progress.{Progress}
 
 -- ---- which requests are answered so
 
@@ -53,15 +53,22 @@ most_piece_sectors = 512
 abbrev pub most_piece_bytes : ℕ
 most_piece_bytes = 262144
 
--- How many sectors the next piece touches, of those that `left` bytes of a device from byte `at` on touch. If single is set it
--- is one; otherwise the last of them ends each unit and data block in which it lies, if one of the most sectors does.
-abbrev pub piece_sectors : Configuration → ℕ → ℕ → ℕ → Bool → ℕ
-piece_sectors c device at left true = 1
-piece_sectors c device at left false = aligned_len c device (at / 512) (touched at left) most_piece_sectors
+-- the most sectors that a piece touches if a larger one couldn't be read: those of 4,096 bytes
+abbrev pub few_sectors : ℕ
+few_sectors = 8
 
--- The size of the next piece: up to the end of these sectors, or to the end of the READ. Before `slow` it lies in one sector.
+-- the most sectors that the next piece touches: one before byte `single`, and a few before byte `slow`
+abbrev pub next_most : Progress → ℕ
+next_most p = if nat_lt p.done p.single then 1 else (if nat_lt p.done p.slow then few_sectors else most_piece_sectors)
+
+-- How many sectors the next piece touches, of those that `left` bytes of a device from byte `at` on touch. The last of them ends
+-- each unit and data block in which it lies, if one of the most sectors does.
+abbrev pub piece_sectors : Configuration → ℕ → ℕ → ℕ → ℕ → ℕ
+piece_sectors c device at left most = aligned_len c device (at / 512) (touched at left) most
+
+-- The size of the next piece: up to the end of these sectors, or to the end of the READ.
 abbrev pub next_size : Configuration → ℕ → Delivery → Progress → ℕ
-next_size c device d p = min (512 * piece_sectors c device (d.offset + p.done) (d.count - p.done) (nat_lt p.done p.slow) - (d.offset + p.done) % 512) (d.count - p.done)
+next_size c device d p = min (512 * piece_sectors c device (d.offset + p.done) (d.count - p.done) (next_most p) - (d.offset + p.done) % 512) (d.count - p.done)
 
 -- some bytes after those that are answered
 pub record AreNextBytes (d : Delivery) (p : Progress) (size : ℕ) : Type 0 where
@@ -73,12 +80,22 @@ pub record AreNextBytes (d : Delivery) (p : Progress) (size : ℕ) : Type 0 wher
 pub record IsDeliveryPiece (c : Configuration) (device : ℕ) (d : Delivery) (p : Progress) (size : ℕ) : Type 0 where
   pub value : size ≡ next_size c device d p
   pub bytes : AreNextBytes d p size
-  pub single : p.done < p.slow → touched (d.offset + p.done) size ≡ 1
+  pub small : touched (d.offset + p.done) size ≤ next_most p
 
 -- a piece that is read: it doesn't begin on `zero` lines
 pub record IsReadPiece (c : Configuration) (e : ExportRecord) (d : Delivery) (p : Progress) (size : ℕ) : Type 0 where
   pub next : IsDeliveryPiece c e.device d p size
   pub other : IsOtherKind c e known.Zeros (d.offset + p.done)
+
+-- the progress after a piece of that size was answered
+abbrev pub progress_after : Progress → ℕ → Progress
+progress_after p size = record { done = p.done + size; slow = p.slow; single = p.single }
+
+-- the progress after a piece of that size, which touches so many sectors, couldn't be read: its bytes are read again by pieces
+-- of a few sectors, or, if it touches no more, by single sectors
+abbrev pub progress_again : Progress → ℕ → ℕ → Progress
+progress_again p size sectors =
+    if nat_lt few_sectors sectors then record { done = p.done; slow = p.done + size; single = p.single } else record { done = p.done; slow = p.slow; single = p.done + size }
 
 -- the first n of `left` bytes from an offset on are an extent on `zero` lines
 abbrev pub BeginsWithZeros : Configuration → ExportRecord → ℕ → ℕ → ℕ → Type 0
@@ -91,9 +108,9 @@ pub record IsSent (e : ExportRecord) (d : Delivery) (p : Progress) (w : World) (
   pub piece : IsReadPiece w.stack.config e d p size
   pub reads : ReadsExport e w (d.offset + p.done) size (Ok content) w'
   pub told : TellsContent d.cookie (p.done + size == d.count) (d.offset + p.done) content chunk
-  pub next_is : next ≡ record { done = p.done + size; slow = p.slow }
+  pub next_is : next ≡ progress_after p size
 
--- The piece lies in several sectors and couldn't be read. Nothing is sent, and its bytes are read again sector by sector.
+-- The piece lies in several sectors and couldn't be read. Nothing is sent, and its bytes are read again by smaller pieces.
 pub record IsPutOff (e : ExportRecord) (d : Delivery) (p : Progress) (w : World) (chunk : List ℕ) (next : Progress) (w' : World) : Type 0 where
   pub size : ℕ
   pub error : Failure
@@ -101,7 +118,7 @@ pub record IsPutOff (e : ExportRecord) (d : Delivery) (p : Progress) (w : World)
   pub several : 1 < touched (d.offset + p.done) size
   pub reads : ReadsExport e w (d.offset + p.done) size (Err error) w'
   pub silent : chunk ≡ []
-  pub next_is : next ≡ record { done = p.done; slow = p.done + size }
+  pub next_is : next ≡ progress_again p size (touched (d.offset + p.done) size)
 
 -- The piece lies in one sector that couldn't be read. The last chunk reports the error and the piece's offset.
 pub record IsLost (e : ExportRecord) (d : Delivery) (p : Progress) (w : World) (chunk : List ℕ) (w' : World) : Type 0 where
@@ -121,7 +138,7 @@ pub record IsHole (e : ExportRecord) (d : Delivery) (p : Progress) (w : World) (
   pub zeros : TouchZeros w.stack.config e (d.offset + p.done) size
   pub status : BeginsWithZeros w.stack.config e (d.offset + p.done) (next_size w.stack.config e.device d p) size
   pub chunk_is : chunk ≡ hole_chunk (p.done + size == d.count) d.cookie (d.offset + p.done) size
-  pub next_is : next ≡ record { done = p.done + size; slow = p.slow }
+  pub next_is : next ≡ progress_after p size
   pub same : w' ≡ w
 
 -- a piece after which the reply goes on
@@ -144,7 +161,7 @@ SendsPiece e d p w w' = ((chunk : List ℕ) × (next : Progress) × GoesOnReplyi
 -- ---- the reply
 
 abbrev pub at_first : Progress
-at_first = record { done = 0; slow = 0 }
+at_first = record { done = 0; slow = 0; single = 0 }
 
 -- a sequence of pieces from the first byte on, and their chunks
 pub data Delivers (e : ExportRecord) (d : Delivery) (first : World) : Progress → World → List ℕ → Type 0 where

@@ -2,6 +2,7 @@ pub mod DataBlocks
 pub mod Failures
 pub mod Logs
 pub mod FaultLines
+pub mod FaultLog
 pub mod Sectors
 pub mod Locating
 pub mod Replies

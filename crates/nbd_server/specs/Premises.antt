@@ -13,7 +13,7 @@ use Rattle.nbd_server.specs.Delivery.{most_piece_bytes}
 use Rattle.nbd_server.specs.Sectors.{most_run_bytes}
 use Rattle.nbd_server.specs.Zeros.{zeros_of}
 use Rattle.nbd_server.specs.declared.delivery.Delivery.{Delivery}
-use Rattle.nbd_server.specs.declared.delivery.Progress.{Progress}
+use Rattle.nbd_server.specs.declared.progress.Progress.{Progress}
 use Rattle.nbd_server.specs.declared.failure.Failure.{Failure}
 use Rattle.nbd_server.specs.declared.failure.Failure.TheVariants.{Faulty}
 use Rattle.nbd_server.specs.declared.lost.LostPiece.{LostPiece}

@@ -16,6 +16,7 @@ use crate::failure::Failure;
 use crate::fetch::read_into;
 use crate::first_faults::SectorFault;
 use crate::piece::piece_sectors;
+use crate::progress::Progress;
 use crate::room::Room;
 use crate::status::status_at;
 use block_device::BlockDev;
@@ -36,13 +37,6 @@ pub(crate) struct Delivery {
     pub(crate) cookie: u64,
     pub(crate) offset: u64,
     pub(crate) count: u32,
-}
-
-/// How many bytes are answered, and the byte before which the rest is read sector by sector.
-#[derive(Clone, Copy, Debug, PartialEq, Eq)]
-pub(crate) struct Progress {
-    pub(crate) done: u32,
-    pub(crate) slow: u32,
 }
 
 /// The next piece: what is answered before it, and its size in bytes.
@@ -100,8 +94,7 @@ impl Delivery {
     {
         let at = self.at(progress);
         let left = self.count - progress.done;
-        let single = progress.done < progress.slow;
-        let sectors = piece_sectors(config, export, at, left, single);
+        let sectors = piece_sectors(config, export, at, left, progress.most());
         let room = SECTOR * sectors - at % SECTOR;
         room.min(u64::from(left)) as u32
     }
@@ -207,17 +200,12 @@ fn deliver_piece<D: BlockDev, W: Write>(
         Ok(()) => {
             let content = room.part((at % SECTOR) as usize, size as usize);
             say_piece(writer, delivery, progress, content)?;
-            Ok(Ok(Progress {
-                done: progress.done + size,
-                slow: progress.slow,
-            }))
+            Ok(Ok(progress.after(size)))
         }
         Err(error) => {
-            if touched(at, size) > 1 {
-                return Ok(Ok(Progress {
-                    done: progress.done,
-                    slow: progress.done + size,
-                }));
+            let sectors = touched(at, size) as u64;
+            if sectors > 1 {
+                return Ok(Ok(progress.again(size, sectors)));
             }
             let text = ErrorText::of(error);
             let told = text.as_bytes();
@@ -249,10 +237,7 @@ fn deliver_next<D: BlockDev, W: Write>(
     let status = status_at(config, export, at, size);
     if status.zeros {
         say_zeros(writer, delivery, progress, status.count)?;
-        return Ok(Ok(Progress {
-            done: progress.done + status.count,
-            slow: progress.slow,
-        }));
+        return Ok(Ok(progress.after(status.count)));
     }
     let piece = Piece { progress, size };
     deliver_piece(room, queue, export, delivery, piece, writer)
@@ -260,8 +245,9 @@ fn deliver_next<D: BlockDev, W: Write>(
 
 /// Answers a READ piece by piece, up to the first sector that can't be read. Each piece is sent as soon as it is read.
 ///
-/// A piece that can't be read is read again sector by sector. Zeros are sent as holes. If a piece begins with zeros of `zero`
-/// lines, these aren't read. Returns the fault that the reply reports as an input/output error, if there is one.
+/// A piece that can't be read is read again by pieces of at most 8 sectors, and one of these sector by sector. Zeros are sent as
+/// holes. If a piece begins with zeros of `zero` lines, these aren't read. Returns the fault that the reply reports as an
+/// input/output error, if there is one.
 ///
 /// # Errors
 ///
@@ -279,7 +265,7 @@ pub(crate) fn deliver<D: BlockDev, W: Write>(
     ensures failed { OnErr result (writer.new.failed ≡ true) }
     ensures stuck { OnErr result (IsStuck (export_record export.now) delivery queue.old queue.new) }
 {
-    let mut progress = Progress { done: 0, slow: 0 };
+    let mut progress = Progress::none();
     'pieces: while progress.done < delivery.count {
         match deliver_next(room, queue, export, delivery, progress, writer)? {
             Ok(next) => progress = next,

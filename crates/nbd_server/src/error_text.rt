@@ -26,7 +26,7 @@ impl Model for ErrorText {
     ghost invariant = { λ t. t.count ≤ 80 };
 }
 
-// Puts bytes behind the first `at` bytes of the room, and returns how many there are then.
+// Puts bytes after the first `at` bytes of the room, and returns how many there are then.
 fn append(room: &mut [u8], at: usize, bytes: &[u8]) -> usize
     requires { at + length bytes.now ≤ length room.old }
     ensures count { result ≡ at + length bytes.now }

@@ -1,40 +1,145 @@
-//! Prints a line for each fault of a request. A failure of the writer stays known and ends nothing.
-ghost use Rattle.std.specs.Prelude.{◌≤◌, ◌++◌, drop, length};
+//! Prints the lines on the faults of requests. A failure of the writer stays known and ends nothing.
+ghost use Rattle.std.specs.Prelude.{◌≡◌, ◌++◌};
 ghost use Rattle.nbd_protocol.specs.Exports.{export_at, export_records};
-ghost use Rattle.nbd_server.specs.FaultLines.{IsPrinted, block_end, fault_facts, fault_line, fault_lines, kind_text, named_fault, place_text};
+ghost use Rattle.nbd_server.specs.FaultLines.{IsPrinted, TellsMet, block_end, fault_facts, fault_line, journal_line, kind_text, last_line, met_lines, more_line, more_text, named_fault, place_text, priority_text, said_line, said_lines, served_fault};
+ghost use Rattle.nbd_server.specs.FaultLog.{met_fault, next_log};
 ghost use Rattle.program_io.specs.Counted.{Writes};
 
+use crate::fault_log::FaultLog;
 use crate::first_faults::FirstFault;
-use nbd_protocol::{Export, export_at};
+use crate::journal::Journal;
+use crate::session_log::SessionLog;
+use nbd_protocol::{Export, Phase, export_at};
 use program_io::{Counted, WriteFault};
 use stack_meaning::IoFault;
 use std::io::Write;
 
-/// Prints a line for each fault from index `told` on.
-pub(crate) fn tell_faults<E: Write>(
-    errors: &mut Counted<E>,
-    exports: &[Export<'_>],
-    faults: &[FirstFault],
-    told: usize,
-)
-    requires { told ≤ length faults.now }
-    ensures { IsPrinted E.contents errors.old errors.new (fault_lines (export_records exports.now) (drop told faults.now)) }
+/// Returns the fault of a request, after its message in a phase led to the next one. Other messages have none.
+pub(crate) fn served_fault(phase: Phase, next: Phase, log: &SessionLog) -> Option<FirstFault>
+    ensures { result ≡ served_fault phase next log.now }
 {
-    let _said = say_fault_lines(errors, exports, &faults[told..]);
+    match phase {
+        Phase::Serving { .. } => match next {
+            Phase::Serving { .. } => log.last,
+            Phase::Greeted | Phase::Haggling { .. } | Phase::Over => None,
+        },
+        Phase::Greeted | Phase::Haggling { .. } | Phase::Over => None,
+    }
 }
 
-// A line for each fault.
-fn say_fault_lines<W: Write>(
-    writer: &mut Counted<W>,
+/// Prints the lines on a fault by the clock, if there is one.
+pub(crate) fn tell_met<E: Write, J: Journal>(
+    errors: &mut Counted<E>,
     exports: &[Export<'_>],
-    faults: &[FirstFault],
-) -> Result<(), WriteFault>
-    ensures { Writes W.contents writer.old writer.new (fault_lines (export_records exports.now) faults.now) result }
+    log: &mut FaultLog,
+    journal: &J,
+    met: Option<FirstFault>,
+)
+    ensures { TellsMet E.contents (J.shows journal.now) (export_records exports.now) log.old log.new errors.old errors.new met }
 {
-    for fault in faults {
-        say_fault_line(writer, exports, fault)?;
+    match met {
+        Some(fault) => tell_fault(errors, exports, log, journal.seconds(), fault),
+        None => {}
     }
-    Ok(())
+}
+
+// Prints how many faults had no line in the minute before, if a new one begins, and the line of this fault, if it has one.
+fn tell_fault<E: Write>(
+    errors: &mut Counted<E>,
+    exports: &[Export<'_>],
+    log: &mut FaultLog,
+    seconds: u64,
+    fault: FirstFault,
+)
+    ensures log { log.new ≡ next_log (met_fault seconds fault) log.old }
+    ensures printed { IsPrinted E.contents errors.old errors.new (met_lines (export_records exports.now) (met_fault seconds fault) log.old) }
+{
+    let priorities = log.priorities;
+    let count = log.begin(seconds);
+    let line = log.count(fault);
+    let _said = say_lines(errors, priorities, exports, count, line);
+}
+
+/// Prints how many faults had no line in the last minute.
+pub(crate) fn tell_more<E: Write>(errors: &mut Counted<E>, log: &FaultLog)
+    ensures { IsPrinted E.contents errors.old errors.new (last_line log.now) }
+{
+    let _said = say_more_line(errors, log.priorities, log.left_out);
+}
+
+fn say_lines<W: Write>(
+    writer: &mut Counted<W>,
+    priorities: bool,
+    exports: &[Export<'_>],
+    count: u64,
+    fault: Option<FirstFault>,
+) -> Result<(), WriteFault>
+    ensures { Writes W.contents writer.old writer.new (said_lines priorities (export_records exports.now) count fault) result }
+{
+    say_more_line(writer, priorities, count)?;
+    say_line(writer, priorities, exports, fault)
+}
+
+// `dmstack: N more faulty requests`, if there are some
+fn say_more_line<W: Write>(
+    writer: &mut Counted<W>,
+    priorities: bool,
+    count: u64,
+) -> Result<(), WriteFault>
+    ensures { Writes W.contents writer.old writer.new (more_line priorities count) result }
+{
+    if count == 0 {
+        return writer.put(b"");
+    }
+    say_priority(writer, priorities)?;
+    say_more(writer, count)
+}
+
+#[tactic(auto, unfolding(crate::specs::FaultLines::more_text))]
+fn say_more<W: Write>(writer: &mut Counted<W>, count: u64) -> Result<(), WriteFault>
+    ensures { Writes W.contents writer.old writer.new (more_text count) result }
+{
+    writer.print(format_args!("dmstack: {count} more faulty requests\n"))
+}
+
+// The line of a fault, if there is one.
+fn say_line<W: Write>(
+    writer: &mut Counted<W>,
+    priorities: bool,
+    exports: &[Export<'_>],
+    fault: Option<FirstFault>,
+) -> Result<(), WriteFault>
+    ensures { Writes W.contents writer.old writer.new (said_line priorities (export_records exports.now) fault) result }
+{
+    match fault {
+        Some(fault) => say_journal_line(writer, priorities, exports, &fault),
+        None => writer.put(b""),
+    }
+}
+
+// The line of a fault, with its priority
+#[tactic(auto, unfolding(crate::specs::FaultLines::journal_line))]
+fn say_journal_line<W: Write>(
+    writer: &mut Counted<W>,
+    priorities: bool,
+    exports: &[Export<'_>],
+    fault: &FirstFault,
+) -> Result<(), WriteFault>
+    ensures { Writes W.contents writer.old writer.new (journal_line priorities (export_records exports.now) fault.now) result }
+{
+    say_priority(writer, priorities)?;
+    say_fault_line(writer, exports, fault)
+}
+
+// `<4>`, that of a warning, for systemd's journal
+fn say_priority<W: Write>(writer: &mut Counted<W>, priorities: bool) -> Result<(), WriteFault>
+    ensures { Writes W.contents writer.old writer.new (priority_text priorities) result }
+{
+    if priorities {
+        writer.put(b"<4>")
+    } else {
+        writer.put(b"")
+    }
 }
 
 // `dmstack: export NAME: sector S: KIND`, or `flush` in place of the sector

@@ -16,7 +16,8 @@ pub struct Tally {
     pub full: u64,
 }
 
-fn one_more(count: u64) -> u64
+/// Returns one more, up to 2^64 - 1.
+pub(crate) fn one_more(count: u64) -> u64
     ensures { result ≡ one_more count }
 {
     count.saturating_add(1)

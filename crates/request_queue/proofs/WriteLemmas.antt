@@ -1,19 +1,22 @@
--- A part of a write that was written.
+-- A part of a request that was served.
 use Rattle.std.proofs.Common.{◌≡◌, inr, ℕ, ◌+◌, ◌-◌, ◌*◌, List, take, drop, refl, sym, ap, ◌∙◌, subst, arith, Result, Ok, Err}
 use Rattle.std.specs.Prelude.{IfErr, IsErrAnd, OnOk}
+use Rattle.allocation.specs.Refusal.{IsOutOfMemory}
 use Rattle.block_device.specs.Call.{Call}
 use Rattle.block_device.specs.Device.{Device}
 use Rattle.stack_meaning.specs.declared.fault.IoFault.{IoFault}
 use Rattle.stack_meaning.specs.declared.fault.IoFault.TheVariants as io
 use Rattle.stack_meaning.specs.Leaves.{AreSteady}
+use Rattle.stack_meaning.specs.Memory.{largest_allocation}
 use Rattle.stack_rules.specs.Names.{mapped}
 use Rattle.stack_lines.specs.Touches.{leaves_of}
-use Rattle.stack_engine.specs.KeptBlocks.{AreChecked}
-use Rattle.stack_engine.specs.Pieces.{PieceGives}
+use Rattle.stack_lines.proofs.lemmas.TouchLemmas.{touches-as}
+use Rattle.stack_engine.specs.KeptBlocks.{AreChecked, ReadKeeps}
+use Rattle.stack_engine.specs.Pieces.{AnyPiece, IsCertainPiece, PieceGives, SteadyPiece}
 use Rattle.stack_engine.specs.Stacks.{StackRecord, AnswerRecord}
 use Rattle.stack_engine.specs.WritePieces.{ArePiece, AnyWrite, SteadyWrite, EachWrite, PieceHands}
 use Rattle.request_queue.specs.declared.range.SectorRange.{SectorRange}
-use Rattle.request_queue.specs.Flights.{reads, writes, nothing}
+use Rattle.request_queue.specs.Flights.{WorkRecord, joint_answer, reads, writes, nothing}
 use Rattle.request_queue.specs.Parts.{EachPart}
 use Rattle.request_queue.specs.PieceCalls.{CalledPart}
 use Rattle.request_queue.specs.Serving.{PartDone, PartFailed}
@@ -45,6 +48,19 @@ pub write-failed : {v v' : StackRecord} {part : List ℕ} (piece : SectorRange) 
 write-failed {v} {v'} piece done items (Err fault) sized any steady checked is =
     record { answered = subst (λ l. EachWrite v piece.device.0 piece.first l (Err fault) v') is (record { piece = sized; any = any; steady = steady }); kept = checked }
 write-failed piece done items (Ok x) sized any steady checked is = tt
+
+-- ---- a part of a read
+
+module _ {v v' : StackRecord} (piece : SectorRange) (done : ℕ) (got more : AnswerRecord) (any : AnyPiece v piece.device.0 piece.first piece.count (Ok more) v')
+    (kept : ReadKeeps v piece.device.0 piece.first piece.count v') where
+  pub read-done : (IsCertainPiece v piece.device.0 piece.first piece.count → SteadyPiece v piece.device.0 piece.first piece.count (Ok more) v') → {work : WorkRecord} → work ≡ reads (joint_answer got more) → PartDone EachPart v piece done (reads got) v' work
+  read-done steady is = record { got = more; answered = record { answered = record { any = any; steady = steady }; kept = kept }; is = is }
+
+  -- there is no memory for what it read
+  pub read-short : IsOutOfMemory largest_allocation → PartFailed EachPart v piece done (reads got) io.NoMemory v'
+  read-short refused =
+      let short : AnyPiece v piece.device.0 piece.first piece.count (Err io.NoMemory) v' = record { config = any.config; capacity = any.capacity; moved = any.moved; may = refused; touches = touches-as (Err io.NoMemory) tt any.touches; fails = any.fails } in
+      record { answered = record { any = short; steady = λ sure. record { any = short; exact = tt } }; kept = kept }
 
 -- ---- by its calls
 

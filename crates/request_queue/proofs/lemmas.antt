@@ -9,6 +9,7 @@ pub mod BytesLemmas
 pub mod KeptLemmas
 pub mod ServedLemmas
 pub mod WholeRunLemmas
+pub mod WholeWriteLemmas
 pub mod LedLemmas
 pub mod AtOnceLemmas
 pub mod ChangesLemmas

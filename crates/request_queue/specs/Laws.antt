@@ -2,7 +2,8 @@
 use Rattle.std.specs.Prelude.{◌≡◌, ℕ, ◌+◌, ◌*◌, ◌/◌, ◌<◌, ◌≤◌, Bool, true, false, List, [], ◌∷◌, length, All, Option, Some, None, Result, Ok, Err, if◌then◌else◌}
 use Rattle.stack_rules.specs.Records.{Configuration}
 use Rattle.stack_meaning.specs.declared.fault.IoFault.{IoFault}
-use Rattle.stack_meaning.specs.Leaves.{AreSteady}
+use Rattle.stack_meaning.specs.Agreement.{AgreesOn}
+use Rattle.stack_meaning.specs.Leaves.{steady_images, AreSteady}
 use Rattle.stack_rules.specs.Names.{mapped}
 use Rattle.stack_lines.specs.Touches.{leaves_of}
 use Rattle.stack_engine.specs.KeptBlocks.{AreChecked}
@@ -70,18 +71,22 @@ pub data IsFlightServed (part : PartRelation) : FlightRecord → List Passage �
 
 -- ---- what a run gives a request
 
+-- before a step the leaves beneath a mapped device agree with what parity restores on them
+abbrev pub AgreesBefore : Configuration → ℕ → Passage → Type 0
+AgreesBefore c d p = AgreesOn c (leaves_of c (mapped d)) (steady_images p.before.leaves)
+
 -- a step over that configuration
 abbrev pub IsPassageOver : Configuration → Passage → Type 0
 IsPassageOver c p = p.before.config ≡ c
 
 -- A request that was begun from world w, as world v, and the turns after it. Whatever the leaves answer and whatever
--- is served in between, its own steps serve it; where the leaves beneath its device are steady each piece is what the
--- stack means at its step.
+-- is served in between, its own steps serve it; where the leaves beneath its device are steady, and agree with what parity restores
+-- on them, each piece is what the stack means at its step.
 -- All its steps are over the configuration in which it was begun. It takes no more steps than its range has pieces,
 -- and these move no more than its budget.
 pub record RequestLaw (w : World) (r : RequestRecord) (t : ℕ) (range : SectorRange) (v : World) (turns : List Turn) : Type 0 where
   pub any : IsFlightServed AnyPart (first_flight t range r) (passages t v turns) (answer_at_last t turns)
-  pub steady : AreSteady (leaves_of w.stack.config (mapped range.device.0)) w.stack.leaves → IsFlightServed SteadyPart (first_flight t range r) (passages t v turns) (answer_at_last t turns)
+  pub steady : AreSteady (leaves_of w.stack.config (mapped range.device.0)) w.stack.leaves → All (AgreesBefore w.stack.config range.device.0) (passages t v turns) → IsFlightServed SteadyPart (first_flight t range r) (passages t v turns) (answer_at_last t turns)
   pub config : All (IsPassageOver w.stack.config) (passages t v turns)
   pub steps : length (passages t v turns) ≤ range.count
   pub pieces : (n : ℕ) → IsCut w.stack.config range n → length (passages t v turns) ≤ n

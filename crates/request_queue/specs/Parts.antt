@@ -1,6 +1,10 @@
 -- Parts of requests, each of which one call of the engine answers.
 use Rattle.std.specs.Prelude.{ℕ, ◌-◌, ◌*◌, List, [], take, drop, Result, Ok, Err}
+use Rattle.stack_rules.specs.Names.{mapped}
+use Rattle.stack_meaning.specs.Agreement.{AgreesOn}
+use Rattle.stack_meaning.specs.Leaves.{steady_images}
 use Rattle.stack_meaning.specs.declared.fault.IoFault.{IoFault}
+use Rattle.stack_lines.specs.Touches.{leaves_of}
 use Rattle.stack_engine.specs.Bytes.{AnyBytes, SteadyBytes, EachBytes}
 use Rattle.stack_engine.specs.KeptBlocks.{AreChecked, ReadKeeps}
 use Rattle.stack_engine.specs.Pieces.{AnyPiece, SteadyPiece, EachPiece}
@@ -82,6 +86,10 @@ SteadyPart = ServesPart SteadyAnswer
 
 abbrev pub EachPart : PartRelation
 EachPart = ServesPart EachAnswer
+
+-- over steady leaves, if those beneath the device agree with what parity restores on them
+abbrev pub AgreedPart : PartRelation
+AgreedPart v d first part answer v' = AgreesOn v.config (leaves_of v.config (mapped d)) (steady_images v.leaves) → SteadyPart v d first part answer v'
 
 -- ---- requests in flight
 

@@ -9,10 +9,12 @@ use Rattle.stack_meaning.specs.Memory.{largest_allocation}
 use Rattle.stack_meaning.specs.Outcomes.{span}
 use Rattle.stack_meaning.specs.Meaning.{sector}
 use Rattle.stack_meaning.specs.May.{MayRead, MayFault}
-use Rattle.stack_meaning.specs.Leaves.{steady_images, AreSteady, AreRead}
+use Rattle.stack_meaning.specs.Leaves.{steady_images, AreRead}
 use Rattle.stack_meaning.specs.Reading.{Ends, Answers}
 use Rattle.stack_lines.specs.Touches.{EndsAtFailure, TouchesOnly, leaves_of}
+use Rattle.stack_engine.specs.Healing.{HasNoParity}
 use Rattle.stack_engine.specs.KeptBlocks.{ReadKeeps}
+use Rattle.stack_engine.specs.Pieces.{IsCertainPiece, MeetsVerity}
 use Rattle.stack_engine.specs.WritePieces.{WritesInPieces}
 use Rattle.stack_engine.specs.Stacks.{StackRecord, AnswerRecord}
 use Rattle.request_queue.specs.declared.fault.SubmitFault.{SubmitFault}
@@ -23,17 +25,17 @@ use Rattle.request_queue.specs.Requests.{RequestRecord, a_read, a_write}
 use Rattle.request_queue.specs.World.{World, admission}
 
 -- A read as a whole: what it moved, what it may answer whatever the leaves are, which of them it touches, that it ends at
--- the first device call that fails, what it leaves of the kept hash blocks, and where the leaves beneath are steady all its
--- bytes as the stack means them, or the error of the least sector that has one.
+-- the first device call that fails, unless parity may restore, what it leaves of the kept hash blocks, and if the leaves beneath
+-- determine it all its bytes as the stack means them, or the error of the least sector that has one.
 pub record ReadsWhole (v : StackRecord) (range : SectorRange) (answer : Result AnswerRecord IoFault) (v' : StackRecord) : Type 0 where
   pub config : v'.config ≡ v.config
   pub capacity : v'.capacity ≡ v.capacity
   pub moved : AreRead v.leaves (range.count * read_cost v.config (mapped range.device.0)) v'.leaves
   pub may : Ends (λ got. MayRead v.config (mapped range.device.0) range.first range.count got.bytes got.chains) (MayFault v.config (mapped range.device.0) range.first range.count) v.leaves v'.leaves answer
   pub touches : TouchesOnly (leaves_of v.config (mapped range.device.0)) v.leaves v'.leaves answer
-  pub fails : EndsAtFailure v.leaves v'.leaves answer
+  pub fails : (MeetsVerity v range.device.0 range.first range.count → HasNoParity v.config) → EndsAtFailure v.leaves v'.leaves answer
   pub kept : ReadKeeps v range.device.0 range.first range.count v'
-  pub exact : AreSteady (leaves_of v.config (mapped range.device.0)) v.leaves → Answers (λ got. got.bytes) (span (sector v.config (steady_images v.leaves) (mapped range.device.0)) range.first range.count) answer
+  pub exact : IsCertainPiece v range.device.0 range.first range.count → Answers (λ got. got.bytes) (span (sector v.config (steady_images v.leaves) (mapped range.device.0)) range.first range.count) answer
 
 -- A write as a whole: all bytes in pieces, or up to the piece that ended it by its fault; where memory ran out, the
 -- sectors before that piece are written and no others, and an allocation was refused.

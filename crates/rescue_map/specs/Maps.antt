@@ -30,6 +30,14 @@ joined f as_ bs = []
 abbrev pub kept_lost : Bool → Bool → Bool → Bool
 kept_lost again lost had = lost && not (again && had)
 
+-- a pass found a sector bad, and didn't recover it
+abbrev pub found_lost : Bool → Bool → Bool
+found_lost lost had = lost && not had
+
+-- for each sector, whether it is bad after a pass over all: those that stay bad, and those that the pass found
+abbrev pub left_lost : Bool → List Bool → List Bool → List Bool → List Bool
+left_lost again before had found = joined (λ kept lost. kept || lost) (joined (kept_lost again) before had) (joined found_lost found had)
+
 -- a sector that stays bad doesn't count as recovered
 abbrev pub kept_had : Bool → Bool → Bool → Bool
 kept_had again lost had = had && not (kept_lost again lost had)

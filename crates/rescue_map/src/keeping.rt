@@ -1,7 +1,7 @@
-//! The bad sectors of a map, which a pass leaves.
-ghost use Rattle.std.specs.Prelude.{◌≡◌, length, IfOk, OnErr};
+//! The bad sectors of a map after a pass.
+ghost use Rattle.std.specs.Prelude.{◌≡◌, ◌||◌, length, IfOk, OnErr};
 ghost use Rattle.allocation.specs.Refusal.{IsOutOfMemory};
-ghost use Rattle.rescue_map.specs.Maps.{joined, kept_had, kept_lost, losts, marks};
+ghost use Rattle.rescue_map.specs.Maps.{found_lost, joined, kept_had, kept_lost, left_lost, losts, marks};
 
 use crate::ahead::Ahead;
 use crate::map::{Map, Run};
@@ -22,8 +22,15 @@ fn kept_had(again: bool, lost: bool, had: bool) -> bool
     had && !kept_lost(again, lost, had)
 }
 
-/// Returns the map `after` a pass over all sectors, in which the bad sectors of the map `before` stay bad. If these were read
-/// `again`, those that were recovered don't.
+// Returns whether a sector is bad after a pass: it stays bad, or the pass found it bad and didn't recover it.
+fn is_bad(again: bool, before: bool, after: Run) -> bool
+    ensures { result ≡ (kept_lost again before after.had || found_lost after.lost after.had) }
+{
+    kept_lost(again, before, after.had) || (after.lost && !after.had)
+}
+
+/// Returns the map `after` a pass over all sectors, in which the bad sectors of the map `before` are bad too. If these were read
+/// `again`, those that were recovered aren't.
 ///
 /// # Errors
 ///
@@ -38,7 +45,7 @@ pub fn keep_lost(
     requires before { length (marks before.now) ≡ sectors }
     requires after { length (marks after.now) ≡ sectors }
     ensures marks { IfOk result (λ map. marks map ≡ joined (kept_had again) (losts before.now) (marks after.now)) }
-    ensures lost { IfOk result (λ map. losts map ≡ joined (kept_lost again) (losts before.now) (marks after.now)) }
+    ensures lost { IfOk result (λ map. losts map ≡ left_lost again (losts before.now) (marks after.now) (losts after.now)) }
     ensures sectors { IfOk result (λ map. length (marks map) ≡ sectors) }
     ensures err { OnErr result (IsOutOfMemory 1) }
 {
@@ -55,7 +62,7 @@ pub fn keep_lost(
         map.push(Run {
             count,
             had: kept_had(again, lost.lost, had.had),
-            lost: kept_lost(again, lost.lost, had.had),
+            lost: is_bad(again, lost.lost, had),
         })?;
         old.pass(count);
         new.pass(count);

@@ -2,8 +2,8 @@
 ghost use Rattle.std.specs.Prelude.{◌≡◌, ◌+◌, ◌^◌, ◌≤◌, ◌++◌, length, take, drop, IfOk, MatchResult, OnErr, OnOk};
 ghost use Rattle.allocation.specs.Asked.{asked};
 ghost use Rattle.allocation.specs.Refusal.{IsOutOfMemory};
-ghost use Rattle.rescue_map.specs.Aheads.{marks_ahead};
-ghost use Rattle.rescue_map.specs.Maps.{marks, spliced_marks};
+ghost use Rattle.rescue_map.specs.Aheads.{losts_ahead, marks_ahead};
+ghost use Rattle.rescue_map.specs.Maps.{losts, marks, spliced_marks};
 
 use crate::ahead::Ahead;
 use crate::map::{Map, Run};
@@ -34,6 +34,7 @@ pub fn splice(
     requires within { span.first + span.count ≤ length (marks within.now) }
     requires inside { span.first + span.count ≤ sectors }
     ensures marks { IfOk result (λ map. marks map ≡ spliced_marks span (marks around.now) (marks within.now)) }
+    ensures lost { IfOk result (λ map. losts map ≡ spliced_marks span (losts around.now) (losts within.now)) }
     ensures sectors { IfOk result (λ map. length (marks map) ≡ sectors) }
     ensures err { OnErr result (IsOutOfMemory 1) }
 {
@@ -57,7 +58,9 @@ fn move_marks(map: &mut Map, ahead: &mut Ahead<'_>, count: u64) -> Result<(), Ou
     ensures moved { MatchResult result
         (λ _. marks map.new ≡ marks map.old ++ take count (marks_ahead ahead.old))
         (λ e. asked e ≡ 1) }
+    ensures lost { OnOk result (losts map.new ≡ losts map.old ++ take count (losts_ahead ahead.old)) }
     ensures rest { OnOk result (marks_ahead ahead.new ≡ drop count (marks_ahead ahead.old)) }
+    ensures lost_rest { OnOk result (losts_ahead ahead.new ≡ drop count (losts_ahead ahead.old)) }
 {
     let mut left = count;
     'runs: while left > 0 {
@@ -77,7 +80,8 @@ fn move_marks(map: &mut Map, ahead: &mut Ahead<'_>, count: u64) -> Result<(), Ou
 // Skips the next `count` sectors.
 fn skip_marks(ahead: &mut Ahead<'_>, count: u64)
     requires { count ≤ length (marks_ahead ahead.old) }
-    ensures { marks_ahead ahead.new ≡ drop count (marks_ahead ahead.old) }
+    ensures rest { marks_ahead ahead.new ≡ drop count (marks_ahead ahead.old) }
+    ensures lost_rest { losts_ahead ahead.new ≡ drop count (losts_ahead ahead.old) }
 {
     let mut left = count;
     'runs: while left > 0 {

@@ -3,7 +3,7 @@ use Rattle.std.proofs.Common.{◌≡◌, ℕ, zero, suc, eqb, ◌+◌, ◌-◌, 
 use Rattle.std.specs.Prelude.{All}
 use Rattle.std.specs.Option.{is_some}
 use Rattle.std.proofs.lemmas.Bool.{cases_lt, cond-false, false≢true, ne_eqb}
-use Rattle.std.proofs.lemmas.List.{get_or-append_right, get_or-replicate, get_or_append_left, get_or_past, length-append, length-replicate}
+use Rattle.std.proofs.lemmas.List.{get_or-append_right, get_or-replicate, get_or_append_left, get_or_past, length-replicate}
 use Rattle.std.proofs.lemmas.List.Elements.{All-head, All-tail}
 use Rattle.block_device.specs.Device.{Device}
 use Rattle.image_files.specs.Opener.{Calls, Opener, calls}
@@ -17,21 +17,20 @@ use Rattle.runs.specs.Runs.{runs_of}
 use Rattle.stack_rules.specs.Names.{mapped, size}
 use Rattle.stack_recovery.specs.declared.recovery.Counts.{Counts}
 use Rattle.stack_recovery.specs.Joins.{joined_state, joined_states}
-use Rattle.stack_recovery.specs.Listings.{Listed, kept_runs}
+use Rattle.stack_recovery.specs.Listings.{Listed}
 use Rattle.stack_recovery.specs.LostRuns.{LostRun, is_same_loss}
 use Rattle.stack_recovery.specs.Recoveries.{Sides, sides}
-use Rattle.stack_recovery.specs.Retries.{Retried, Steps, no_step, one_more, scan_of}
+use Rattle.stack_recovery.specs.Retries.{Steps, no_step, one_more, scan_of}
 use Rattle.stack_recovery.specs.Surveys.{SectorState}
 use Rattle.scan_commands.specs.declared.phase.Phase.{Phase}
 use Rattle.scan_commands.specs.declared.phase.Phase.TheVariants.{Rescue, Retry, Skim}
 use Rattle.scan_commands.specs.Laws.{LostRunsAreUnrecovered, is_in, reported}
 use Rattle.scan_commands.specs.MapFiles.{Continues, IsMapRead, IsUnread, MapPathRecord, continues}
-use Rattle.scan_commands.specs.Passes.{IsRescued, Moving}
 use Rattle.scan_commands.specs.PassesInTurns.{AfterTurns, IsSilentTurns, ReportsLast, after_turns, nothing, pass_from, phase_after}
-use Rattle.scan_commands.specs.Turns.{Kept, Progressed, begun_with, is_again, kept, progressed}
+use Rattle.scan_commands.specs.Turns.{Kept, begun_with, is_again, kept}
 use Rattle.scan_commands.proofs.LostSectorLemmas.{AreBetween, joined-at, joined-lost, runs-in}
-use Rattle.scan_commands.proofs.LostMarkLemmas.{losts-length}
-use Rattle.scan_commands.proofs.LostTurnLemmas.{IsFound, IsSound, found-turns, sound-turns}
+use Rattle.rescue_map.proofs.lemmas.RunLemmas.{losts-length}
+use Rattle.scan_commands.proofs.LostTurnLemmas.{IsSound, found-turns, sound-turns}
 
 -- ---- the map that is read
 

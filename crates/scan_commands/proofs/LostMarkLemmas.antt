@@ -1,14 +1,12 @@
 -- The marks of single sectors.
-use Rattle.std.proofs.Common.{◌≡◌, ℕ, zero, suc, ◌+◌, ◌-◌, ◌<◌, ◌≤◌, ◌&&◌, ◌||◌, not, Bool, true, false, IsTrue, List, [], ◌∷◌, ◌++◌, length, map, take, drop, get_or, replicate, Option, Some, None, refl, sym, ap, ap₂, ◌∙◌, subst, inl, inr, arith}
-use Rattle.std.specs.List.{list_all}
+use Rattle.std.proofs.Common.{◌≡◌, ℕ, zero, suc, ◌+◌, ◌-◌, ◌<◌, ◌≤◌, ◌&&◌, ◌||◌, not, Bool, true, false, List, [], ◌∷◌, ◌++◌, length, take, drop, get_or, replicate, Some, None, refl, sym, ap, ap₂, ◌∙◌, inl, inr, arith}
 use Rattle.std.specs.Option.{is_some}
-use Rattle.std.proofs.lemmas.Bool.{and_parts, cases_lt, false≢true}
-use Rattle.std.proofs.lemmas.List.{get_or-append_right, get_or-drop, get_or-map, get_or-replicate, get_or-take, get_or_append_left, get_or_past, length-append, length-drop, length-map, length-replicate, length-take-le}
+use Rattle.std.proofs.lemmas.Bool.{cases_lt, false≢true}
+use Rattle.std.proofs.lemmas.List.{get_or-append_right, get_or-drop, get_or-replicate, get_or-take, get_or_append_left, length-append, length-drop, length-replicate, length-take-le}
 use Rattle.rescue_map.specs.declared.map.Run.{Run}
 use Rattle.rescue_map.specs.declared.splicing.Span.{Span}
-use Rattle.rescue_map.specs.Maps.{is_settled, joined, kept_had, kept_lost, losts, marks, settled_marks, spliced_marks}
+use Rattle.rescue_map.specs.Maps.{found_lost, is_settled, joined, kept_had, kept_lost, losts, marks, settled_marks, spliced_marks}
 use Rattle.stack_engine.specs.Stacks.{StackRecord}
-use Rattle.stack_recovery.specs.declared.lost_run.Loss.{Loss}
 use Rattle.stack_recovery.specs.Recoveries.{is_had}
 use Rattle.stack_recovery.specs.Surveys.{Finding, IsSurveyOver, PieceRead, SectorState, again, all_states, had, kept, lost, mark_of, states_of}
 
@@ -24,14 +22,6 @@ pub joined-length : (f : Bool → Bool → Bool) (as_ bs : List Bool) → length
 joined-length f [] bs e = refl
 joined-length f (a ∷ as_) [] e = absurd (omega (arith, e))
 joined-length f (a ∷ as_) (b ∷ bs) e = ap suc (joined-length f as_ bs (omega (arith, e)))
-
--- as many sectors are bad or not as were recovered or not
-pub losts-length : (runs : List Run) → length (losts runs) ≡ length (marks runs)
-losts-length [] = refl
-losts-length (run ∷ more) =
-    length-append (replicate run.count run.lost) (losts more) ∙ ap (λ (n : ℕ). n + length (losts more)) (length-replicate {A = Bool} run.count run.lost)
-    ∙ ap (λ (n : ℕ). run.count + n) (losts-length more)
-    ∙ ap (λ (n : ℕ). n + length (marks more)) (sym (length-replicate {A = Bool} run.count run.had)) ∙ sym (length-append (replicate run.count run.had) (marks more))
 
 -- the mark of a sector that is settled
 pub settled-get : (a : Bool) (runs : List Run) (s : ℕ) → s < length (marks runs) → get_or (settled_marks a runs) s false ≡ (get_or (marks runs) s false || (get_or (losts runs) s false && not a))
@@ -100,25 +90,45 @@ module _ (span : Span) (around within : List Bool) (inside : span.first + span.c
 
 -- ---- what is kept of a sector
 
--- a bad sector doesn't count as recovered
-pub kept-apart : (a l h : Bool) → kept_lost a l h ≡ true → kept_had a l h ≡ false
-kept-apart a true true e = ap (λ (b : Bool). true && not b) e
-kept-apart a true false e = refl
-kept-apart a false h e = absurd (false≢true e)
+-- whether it is bad after a pass: it was before, or a read found it so
+abbrev pub left_bad : Bool → Bool → Bool → Bool → Bool
+left_bad a l h f = kept_lost a l h || found_lost f h
 
--- it wasn't read again, or was: x is whether a read found it lost
-pub kept-read : (a l x : Bool) → kept_had a l (not x) ≡ not ((kept_lost a l (not x) && not a) || x)
-kept-read true true true = refl
-kept-read true true false = refl
-kept-read true false true = refl
-kept-read true false false = refl
-kept-read false true true = refl
-kept-read false true false = refl
-kept-read false false true = refl
-kept-read false false false = refl
+-- a bad sector doesn't count as recovered
+pub kept-apart : (a l h f : Bool) → left_bad a l h f ≡ true → kept_had a l h ≡ false
+kept-apart true true true true e = absurd (false≢true e)
+kept-apart true true true false e = absurd (false≢true e)
+kept-apart true true false f e = refl
+kept-apart true false true true e = absurd (false≢true e)
+kept-apart true false true false e = absurd (false≢true e)
+kept-apart true false false f e = refl
+kept-apart false true true f e = refl
+kept-apart false true false f e = refl
+kept-apart false false true true e = absurd (false≢true e)
+kept-apart false false true false e = absurd (false≢true e)
+kept-apart false false false f e = refl
+
+-- it wasn't read again, or was: x is whether a read found it lost or unscraped
+pub kept-read : (a l x f : Bool) → kept_had a l (not x) ≡ not ((left_bad a l (not x) f && not a) || x)
+kept-read true true true true = refl
+kept-read true true true false = refl
+kept-read true true false true = refl
+kept-read true true false false = refl
+kept-read true false true true = refl
+kept-read true false true false = refl
+kept-read true false false true = refl
+kept-read true false false false = refl
+kept-read false true true true = refl
+kept-read false true true false = refl
+kept-read false true false true = refl
+kept-read false true false false = refl
+kept-read false false true true = refl
+kept-read false false true false = refl
+kept-read false false false true = refl
+kept-read false false false false = refl
 
 -- it was reported before, or not
-pub kept-before : (a l m y : Bool) → m ≡ not ((l && not a) || y) → kept_had a l m ≡ not ((kept_lost a l m && not a) || y)
+pub kept-before : (a l m y : Bool) → m ≡ not ((l && not a) || y) → kept_had a l m ≡ not ((left_bad a l m l && not a) || y)
 kept-before true true true true e = absurd (false≢true (sym e))
 kept-before true true true false e = refl
 kept-before true true false true e = refl

@@ -1,11 +1,11 @@
 -- The sectors of lost runs.
-use Rattle.std.proofs.Common.{◌≡◌, ℕ, zero, suc, ◌+◌, ◌-◌, ◌<◌, ◌≤◌, ◌==◌, ◌&&◌, ◌||◌, not, Bool, true, false, cond, List, [], ◌∷◌, ◌++◌, length, get_or, Option, Some, None, refl, sym, ap, ap₂, ◌∙◌, subst, inl, inr, arith}
+use Rattle.std.proofs.Common.{◌≡◌, ℕ, zero, suc, ◌+◌, ◌<◌, ◌≤◌, ◌==◌, ◌&&◌, ◌||◌, not, Bool, true, false, cond, List, [], ◌∷◌, ◌++◌, length, get_or, Some, None, refl, sym, ap, ap₂, ◌∙◌, subst, inl, inr, arith}
 use Rattle.std.specs.Prelude.{nat_le, nat_lt}
 use Rattle.std.specs.Option.{is_some}
 use Rattle.std.proofs.lemmas.Bool.{and_parts, cases_lt, cond-false, cond-true, eqb-true, le-leb, le-ltb, lt-leb, lt-ltb}
 use Rattle.runs.specs.Runs.{follows, run, run_before, runs_of}
 use Rattle.stack_recovery.specs.declared.lost_run.Loss.{Loss}
-use Rattle.stack_recovery.specs.Joins.{joined_state, joined_states, state_in}
+use Rattle.stack_recovery.specs.Joins.{joined_state, joined_states, or_known, state_in}
 use Rattle.stack_recovery.specs.LostRuns.{LostRun, is_same_loss}
 use Rattle.stack_recovery.specs.Surveys.{SectorState}
 use Rattle.scan_commands.specs.Laws.{is_in, is_within}
@@ -206,7 +206,10 @@ joined-at again at (bad ∷ bads) found (suc j) low =
     joined-at again (suc at) bads found j (omega (arith, low)) ∙ ap (joined_state again (get_or bads j false) found) next
 
 pub joined-lost : (again bad : Bool) (found : List LostRun) (low high s : ℕ) → AreBetween low high found → is_some (joined_state again bad found s) ≡ (bad && not again) || is_in found s
-joined-lost true true found low high s p = state-in low high found s p
-joined-lost true false found low high s p = state-in low high found s p
-joined-lost false true found low high s p = refl
-joined-lost false false found low high s p = state-in low high found s p
+joined-lost again bad found low high s p = known (bad && not again) (state_in found s) ∙ ap (λ (x : Bool). (bad && not again) || x) (state-in low high found s p)
+  where
+    known : (b : Bool) (x : SectorState) → is_some (or_known b x) ≡ (b || is_some x)
+    known true None = refl
+    known true (Some loss) = refl
+    known false None = refl
+    known false (Some loss) = refl

@@ -1,12 +1,12 @@
 -- The runs that a pass in turns finds, and the sectors that its map doesn't mark as recovered.
-use Rattle.std.proofs.Common.{◌≡◌, ℕ, zero, suc, ◌+◌, ◌-◌, ◌<◌, ◌≤◌, ◌&&◌, ◌||◌, not, Bool, true, false, IsTrue, List, [], ◌∷◌, ◌++◌, length, map, take, drop, get_or, replicate, Option, Some, None, refl, sym, ap, ap₂, ◌∙◌, subst, inl, inr, arith}
+use Rattle.std.proofs.Common.{◌≡◌, ℕ, ◌+◌, ◌-◌, ◌<◌, ◌≤◌, ◌&&◌, ◌||◌, not, Bool, true, false, List, [], ◌∷◌, ◌++◌, length, map, get_or, replicate, Option, Some, None, refl, sym, ap, ap₂, ◌∙◌, subst, inl, inr, arith}
 use Rattle.std.specs.List.{list_all}
-use Rattle.std.specs.Option.{is_some}
-use Rattle.std.proofs.lemmas.Bool.{and_parts, cases_lt, false≢true}
-use Rattle.std.proofs.lemmas.List.{get_or-append_right, get_or-drop, get_or-map, get_or-replicate, get_or-take, get_or_append_left, get_or_past, length-append, length-drop, length-map, length-replicate, length-take-le}
+use Rattle.std.proofs.lemmas.Bool.{and_parts, cases_lt}
+use Rattle.std.proofs.lemmas.List.{get_or-append_right, get_or-map, get_or-replicate, get_or_append_left, get_or_past, length-append, length-map, length-replicate}
 use Rattle.rescue_map.specs.declared.map.Run.{Run}
 use Rattle.rescue_map.specs.declared.splicing.Span.{Span}
-use Rattle.rescue_map.specs.Maps.{kept_had, kept_lost, losts, marks, settled_marks, spliced_marks}
+use Rattle.rescue_map.specs.Maps.{found_lost, joined, kept_had, kept_lost, losts, marks, settled_marks, spliced_marks}
+use Rattle.rescue_map.proofs.lemmas.RunLemmas.{losts-length}
 use Rattle.runs.specs.Runs.{runs_of}
 use Rattle.stack_engine.specs.Stacks.{StackRecord}
 use Rattle.stack_recovery.specs.Listings.{KeepsMore, Listed}
@@ -20,7 +20,7 @@ use Rattle.scan_commands.specs.declared.turns.ReadMap.{ReadMap}
 use Rattle.scan_commands.specs.Laws.{is_in}
 use Rattle.scan_commands.specs.Turns.{IsSkipped, IsTurn, Kept, Progressed, ReadsLeft, ReadsSectors, Turns, asked_marks, begins, goes_on, is_again, passes, span_between}
 use Rattle.scan_commands.proofs.LostSectorLemmas.{AreBetween, between-append, between-higher, in-append, in-before, in-behind, runs-in, runs-span}
-use Rattle.scan_commands.proofs.LostMarkLemmas.{had-lost, joined-get, joined-length, kept-apart, kept-before, kept-read, losts-length, settled-get, settled-told, spliced-before, spliced-behind, spliced-inside, spliced-size, survey-marked}
+use Rattle.scan_commands.proofs.LostMarkLemmas.{had-lost, joined-get, joined-length, kept-apart, kept-before, kept-read, left_bad, settled-get, settled-told, spliced-before, spliced-behind, spliced-inside, spliced-size, survey-marked}
 use Rattle.scan_commands.proofs.SpanLemmas.{settled-length}
 
 -- ---- maps
@@ -75,8 +75,31 @@ module _ {S : Type 0} (k : Kept S) (phase : Phase) (old new : Progressed S) (t :
   mark-new : (s : ℕ) → s < k.sectors → get_or (marks new.runs) s false ≡ kept_had a (get_or (losts old.runs) s false) (get_or spliced s false)
   mark-new s low = ap (λ (l : List Bool). get_or l s false) t.map ∙ joined-get (kept_had a) (losts old.runs) spliced s (omega (arith, low, losts-all)) (omega (arith, low, spliced-all))
 
-  lost-new : (s : ℕ) → s < k.sectors → get_or (losts new.runs) s false ≡ kept_lost a (get_or (losts old.runs) s false) (get_or spliced s false)
-  lost-new s low = ap (λ (l : List Bool). get_or l s false) t.bad ∙ joined-get (kept_lost a) (losts old.runs) spliced s (omega (arith, low, losts-all)) (omega (arith, low, spliced-all))
+  -- which sectors are bad in the map before the turn, and in that of its span
+  abbrev bads : List Bool
+  bads = spliced_marks span (losts old.runs) (losts t.made.map)
+
+  lost-inside-old : old.at + (new.at - old.at) ≤ length (losts old.runs)
+  lost-inside-old = omega (arith, inside-old, losts-length old.runs)
+
+  lost-inside-made : old.at + (new.at - old.at) ≤ length (losts t.made.map)
+  lost-inside-made = omega (arith, inside-made, losts-length t.made.map)
+
+  bads-all : length bads ≡ k.sectors
+  bads-all = spliced-size span (losts old.runs) (losts t.made.map) lost-inside-old lost-inside-made ∙ losts-all
+
+  kept-all : length (joined (kept_lost a) (losts old.runs) spliced) ≡ k.sectors
+  kept-all = joined-length (kept_lost a) (losts old.runs) spliced (losts-all ∙ sym spliced-all) ∙ losts-all
+
+  more-all : length (joined found_lost bads spliced) ≡ k.sectors
+  more-all = joined-length found_lost bads spliced (bads-all ∙ sym spliced-all) ∙ bads-all
+
+  lost-new : (s : ℕ) → s < k.sectors → get_or (losts new.runs) s false ≡ left_bad a (get_or (losts old.runs) s false) (get_or spliced s false) (get_or bads s false)
+  lost-new s low =
+      ap (λ (l : List Bool). get_or l s false) t.bad
+      ∙ joined-get (λ (kept lost : Bool). kept || lost) (joined (kept_lost a) (losts old.runs) spliced) (joined found_lost bads spliced) s (omega (arith, low, kept-all)) (omega (arith, low, more-all))
+      ∙ ap₂ (λ (x y : Bool). x || y) (joined-get (kept_lost a) (losts old.runs) spliced s (omega (arith, low, losts-all)) (omega (arith, low, spliced-all)))
+      (joined-get found_lost bads spliced s (omega (arith, low, bads-all)) (omega (arith, low, spliced-all)))
 
   new-size : length (marks new.runs) ≡ k.sectors
   new-size = ap length t.map ∙ joined-length (kept_had a) (losts old.runs) spliced (losts-all ∙ sym spliced-all) ∙ losts-all
@@ -85,7 +108,7 @@ module _ {S : Type 0} (k : Kept S) (phase : Phase) (old new : Progressed S) (t :
   sound-turn = record {
     size = new-size;
     apart = λ s is. elim (cases_lt s k.sectors) [
-      | inl low ↦ mark-new s low ∙ kept-apart a (get_or (losts old.runs) s false) (get_or spliced s false) (sym (lost-new s low) ∙ is)
+      | inl low ↦ mark-new s low ∙ kept-apart a (get_or (losts old.runs) s false) (get_or spliced s false) (get_or bads s false) (sym (lost-new s low) ∙ is)
       | inr past ↦ get_or_past (marks new.runs) s false (omega (arith, past, new-size))
     ];
   }
@@ -151,14 +174,14 @@ module _ {S : Type 0} (k : Kept S) (phase : Phase) (old new : Progressed S) (t :
             let same = spliced-before span (marks old.runs) made inside-old inside-made s before in
             let both : is_in found s ≡ is_in (found ++ runs) s = or_none (is_in found s) ∙ sym (in-append found runs s ∙ ap (λ (x : Bool). is_in found s || x) (in-before old.at new.at runs s runs-between before)) in
             mark-new s inside ∙ ap (kept_had a l) same ∙ kept-before a l m (is_in found s) (p.told s before)
-            ∙ ap₂ (λ (x y : Bool). not ((x && not a) || y)) (sym (lost-new s inside ∙ ap (kept_lost a l) same)) both
+            ∙ ap₂ (λ (x y : Bool). not ((x && not a) || y)) (sym (lost-new s inside ∙ ap₂ (left_bad a l) same (spliced-before span (losts old.runs) (losts t.made.map) lost-inside-old lost-inside-made s before))) both
         | inr from ↦
             let inside : s < k.sectors = omega (arith, low, few-inside) in
             let l : Bool = get_or (losts old.runs) s false in
             let same = spliced-inside span (marks old.runs) made inside-old inside-made s from (omega (arith, low, upto)) ∙ made-get s (omega (arith, low, t.here)) in
             let both : is_in runs s ≡ is_in (found ++ runs) s = sym (in-append found runs s ∙ ap (λ (x : Bool). x || is_in runs s) (in-behind 0 old.at found s p.between from)) in
-            mark-new s inside ∙ ap (kept_had a l) same ∙ kept-read a l (is_in runs s)
-            ∙ ap₂ (λ (x y : Bool). not ((x && not a) || y)) (sym (lost-new s inside ∙ ap (kept_lost a l) same)) both
+            mark-new s inside ∙ ap (kept_had a l) same ∙ kept-read a l (is_in runs s) (get_or bads s false)
+            ∙ ap₂ (λ (x y : Bool). not ((x && not a) || y)) (sym (lost-new s inside ∙ ap (λ (h : Bool). left_bad a l h (get_or bads s false)) same)) both
       ];
     }
 

@@ -3,7 +3,8 @@ use Rattle.std.proofs.Common.{◌≡◌, ℕ, zero, suc, ◌+◌, ◌-◌, ◌�
 use Rattle.std.proofs.lemmas.List.{drop-drop, length-append, length-drop, length-replicate, length-take-le}
 use Rattle.rescue_map.specs.declared.map.Run.{Run}
 use Rattle.rescue_map.specs.declared.splicing.Span.{Span}
-use Rattle.rescue_map.specs.Maps.{is_settled, joined, kept_had, kept_lost, losts, marks, settled_marks, spliced_marks}
+use Rattle.rescue_map.specs.Maps.{found_lost, is_settled, joined, kept_had, kept_lost, left_lost, losts, marks, settled_marks, spliced_marks}
+use Rattle.rescue_map.proofs.lemmas.RunLemmas.{losts-length}
 
 -- the span of two maps that are the same from its first sector on
 pub spliced-same : (span : Span) (around within other : List Bool) → drop span.first within ≡ drop span.first other → spliced_marks span around within ≡ spliced_marks span around other
@@ -35,8 +36,8 @@ drop-joined f (suc n) (a ∷ as_) [] = none (drop n as_)
     none (x ∷ l) = refl
 drop-joined f (suc n) (a ∷ as_) (b ∷ bs) = drop-joined f n as_ bs
 
--- one sector stays settled, or not
-settles-kept : (again lost had : Bool) → settles again (kept_had again lost had) (kept_lost again lost had) ≡ settles again had lost
+-- one sector stays settled, or not, if no pass found more of it
+settles-kept : (again lost had : Bool) → settles again (kept_had again lost had) (kept_lost again lost had || found_lost lost had) ≡ settles again had lost
 settles-kept true true true = refl
 settles-kept true true false = refl
 settles-kept true false true = refl
@@ -47,19 +48,12 @@ settles-kept false false true = refl
 settles-kept false false false = refl
 
 settles-kept-all : (again : Bool) (ls hs : List Bool) → length ls ≡ length hs
-    → joined (settles again) (joined (kept_had again) ls hs) (joined (kept_lost again) ls hs) ≡ joined (settles again) hs ls
+    → joined (settles again) (joined (kept_had again) ls hs) (left_lost again ls hs ls) ≡ joined (settles again) hs ls
 settles-kept-all again [] [] e = refl
 settles-kept-all again [] (h ∷ hs) e = absurd (omega (arith, e))
 settles-kept-all again (l ∷ ls) [] e = absurd (omega (arith, e))
 settles-kept-all again (l ∷ ls) (h ∷ hs) e =
     ap₂ (λ (b : Bool) (bs : List Bool). b ∷ bs) (settles-kept again l h) (settles-kept-all again ls hs (omega (arith, e)))
-
-same-length : (runs : List Run) → length (losts runs) ≡ length (marks runs)
-same-length [] = refl
-same-length (run ∷ more) =
-    length-append (replicate run.count run.lost) (losts more) ∙ ap (λ (n : ℕ). n + length (losts more)) (length-replicate {A = Bool} run.count run.lost)
-    ∙ ap (λ (n : ℕ). run.count + n) (same-length more)
-    ∙ ap (λ (n : ℕ). n + length (marks more)) (sym (length-replicate {A = Bool} run.count run.had)) ∙ sym (length-append (replicate run.count run.had) (marks more))
 
 drop-front : (as_ bs : List Bool) (n : ℕ) → n ≡ length as_ → drop n (as_ ++ bs) ≡ bs
 drop-front [] bs zero e = refl
@@ -81,22 +75,27 @@ drop-spliced span around within inside within_ =
     ap (drop (f + c)) (sym (append_assoc front middle rest))
     ∙ drop-front (front ++ middle) rest (f + c) (omega (arith, len1, len2, length-append front middle))
 
--- A pass that read a span, of which bad sectors stay bad unless they were read again, leaves what is settled after the span.
+-- A pass that read a span leaves what is settled after the span.
 pub settled-after : (again : Bool) (span : Span) (at : ℕ) (old new made : List Run) → at ≡ span.first + span.count → at ≤ length (marks old) → at ≤ length (marks made)
     → marks new ≡ joined (kept_had again) (losts old) (spliced_marks span (marks old) (marks made))
-    → losts new ≡ joined (kept_lost again) (losts old) (spliced_marks span (marks old) (marks made))
+    → losts new ≡ left_lost again (losts old) (spliced_marks span (marks old) (marks made)) (spliced_marks span (losts old) (losts made))
     → drop at (settled_marks again new) ≡ drop at (settled_marks again old)
 settled-after again span at old new made here inside within had lost =
     let s : List Bool = spliced_marks span (marks old) (marks made) in
+    let f : List Bool = spliced_marks span (losts old) (losts made) in
     let ls : List Bool = drop at (losts old) in
     let hs : List Bool = drop at (marks old) in
     let rest : drop at s ≡ hs =
     ap (λ (n : ℕ). drop n s) here ∙ drop-spliced span (marks old) (marks made) (omega (arith, here, inside)) (omega (arith, here, within)) ∙ ap (λ (n : ℕ). drop n (marks old)) (sym here) in
+    let found : drop at f ≡ ls =
+    ap (λ (n : ℕ). drop n f) here ∙ drop-spliced span (losts old) (losts made) (omega (arith, here, inside, losts-length old)) (omega (arith, here, within, losts-length made)) ∙ ap (λ (n : ℕ). drop n (losts old)) (sym here) in
     let had' : drop at (marks new) ≡ joined (kept_had again) ls hs =
     ap (drop at) had ∙ drop-joined (kept_had again) at (losts old) s ∙ ap (joined (kept_had again) ls) rest in
-    let lost' : drop at (losts new) ≡ joined (kept_lost again) ls hs =
-    ap (drop at) lost ∙ drop-joined (kept_lost again) at (losts old) s ∙ ap (joined (kept_lost again) ls) rest in
-    let len : length ls ≡ length hs = length-drop at (losts old) ∙ ap (λ (n : ℕ). n - at) (same-length old) ∙ sym (length-drop at (marks old)) in
+    let kept : drop at (joined (kept_lost again) (losts old) s) ≡ joined (kept_lost again) ls hs = drop-joined (kept_lost again) at (losts old) s ∙ ap (joined (kept_lost again) ls) rest in
+    let more : drop at (joined found_lost f s) ≡ joined found_lost ls hs = drop-joined found_lost at f s ∙ ap₂ (joined found_lost) found rest in
+    let lost' : drop at (losts new) ≡ left_lost again ls hs ls =
+    ap (drop at) lost ∙ drop-joined (λ (kept lost : Bool). kept || lost) at (joined (kept_lost again) (losts old) s) (joined found_lost f s) ∙ ap₂ (joined (λ (kept lost : Bool). kept || lost)) kept more in
+    let len : length ls ≡ length hs = length-drop at (losts old) ∙ ap (λ (n : ℕ). n - at) (losts-length old) ∙ sym (length-drop at (marks old)) in
     ap (drop at) (settled-joined again new) ∙ drop-joined (settles again) at (marks new) (losts new)
     ∙ ap₂ (λ (a b : List Bool). joined (settles again) a b) had' lost'
     ∙ settles-kept-all again ls hs len

@@ -5,7 +5,7 @@ use Rattle.allocation.specs.Refusal.{IsOutOfMemory}
 use Rattle.block_device.specs.Device.{Device, HasFailed, IsUnsynced, capped, synced}
 use Rattle.rescue_map.specs.declared.map.Run.{Run}
 use Rattle.rescue_map.specs.declared.splicing.Span.{Span}
-use Rattle.rescue_map.specs.Maps.{is_settled_from, joined, kept_had, kept_lost, losts, marks, settled_marks, spliced_marks}
+use Rattle.rescue_map.specs.Maps.{is_settled_from, joined, kept_had, left_lost, losts, marks, settled_marks, spliced_marks}
 use Rattle.rescue_map.specs.MapText.{map_text}
 use Rattle.stack_recovery.specs.declared.deadline.Deadline.{Deadline}
 use Rattle.stack_recovery.specs.declared.deadline.DevicePass.{DevicePass}
@@ -87,11 +87,12 @@ abbrev pub asked_marks : Phase → Span → ℕ → List Run → List Bool
 asked_marks phase span sectors runs = spliced_marks span (replicate sectors true) (settled_marks (is_again phase) runs)
 
 -- the marks after a turn that made a map of the span, and which sectors are bad: those before it, but not those that were read again
+-- and recovered, and those that the turn found
 abbrev pub left_marks : Phase → Span → List Run → List Run → List Bool
 left_marks phase span runs made = joined (kept_had (is_again phase)) (losts runs) (spliced_marks span (marks runs) (marks made))
 
 abbrev pub left_losts : Phase → Span → List Run → List Run → List Bool
-left_losts phase span runs made = joined (kept_lost (is_again phase)) (losts runs) (spliced_marks span (marks runs) (marks made))
+left_losts phase span runs made = left_lost (is_again phase) (losts runs) (spliced_marks span (marks runs) (marks made)) (spliced_marks span (losts runs) (losts made))
 
 -- The status of a map file after the sectors before `end` were read in a pass: those before some sector were tried, or all, if
 -- none is left to be read from there on. Before a retry all were tried.

@@ -41,7 +41,7 @@ pub fn has_missing(counts: Counts) -> bool
     counts.lost > 0 || counts.untried > 0
 }
 
-/// Prints `read N lost N`, and behind it `untried N` if sectors are unscraped, and `restored N` if blocks were restored.
+/// Prints `read N lost N`, and after it `untried N` if sectors are unscraped, and `restored N` if blocks were restored.
 ///
 /// # Errors
 ///

@@ -60,7 +60,8 @@ pub(crate) fn asked(
     splice(alloc, &maps.all, &maps.done, span, sectors)
 }
 
-/// Returns the map after a turn that made a map of these sectors. Bad sectors stay bad, but not those that the pass read again.
+/// Returns the map after a turn that made a map of these sectors. Bad sectors stay bad, but not those that the pass read again and
+/// recovered.
 ///
 /// # Errors
 ///

@@ -1,7 +1,10 @@
 -- What `nbd` prints among the errors.
 use Rattle.std.proofs.Common.{◌≡◌, ◌++◌, ℕ, Bool, true, false, List, Option, Result, inl, inr, refl}
 use Rattle.std.proofs.KnownBytes.{Appends-trans}
-use Rattle.nbd_server.specs.FaultLines.{IsPrinted}
+use Rattle.nbd_protocol.specs.Exports.{ExportRecord}
+use Rattle.nbd_server.specs.FaultLines.{IsPrinted, IsReported, report_text}
+use Rattle.nbd_server.specs.FaultLog.{MetFault}
+use Rattle.nbd_server.specs.declared.first_faults.FirstFault.{FirstFault}
 use Rattle.program_io.specs.Counted.{CountedRecord, Writes}
 use Rattle.program_io.specs.declared.fault.WriteFault.{WriteFault}
 use Rattle.partition_commands.specs.Warnings.{IsNoted, notes_of}
@@ -10,8 +13,8 @@ use Rattle.stack_commands.proofs.EndingLemmas.{still-failed, written-or}
 
 module _ {E : Type 0} (contents : E → Option (List ℕ)) where
   -- nothing is printed with `--quiet`
-  pub unnoted : (old : CountedRecord E) (quiet : Bool) (text : List ℕ) → quiet ≡ true → IsNotedUnless quiet (notes_of contents old old) text
-  unnoted old quiet text is = rw is refl
+  pub unnoted : (old : CountedRecord E) (quiet : Bool) (text : List MetFault → List ℕ) (faults : List FirstFault) → quiet ≡ true → IsNotedUnless quiet text (notes_of contents old old) faults
+  unnoted old quiet text faults is = rw is refl
 
   -- a text is printed, or the writer fails
   pub printed-or : (old new : CountedRecord E) (text : List ℕ) (result : Result Unit WriteFault) → Writes contents old new text result → IsPrinted contents old new text
@@ -24,8 +27,11 @@ module _ {E : Type 0} (contents : E → Option (List ℕ)) where
   noted-then old mid new first second (inl before) kept (inr failed) = inr failed
   noted-then old mid new first second (inl before) kept (inl after) = inl (Appends-trans (contents old.inner) (contents mid.inner) (contents new.inner) first second before after)
 
-  -- three texts are printed without it
-  pub noted-all : (old started served new : CountedRecord E) (quiet : Bool) (first second third : List ℕ) → quiet ≡ false → IsPrinted contents old started first → IsPrinted contents started served second
-      → IsPrinted contents served new third → IsNotedUnless quiet (notes_of contents old new) (first ++ (second ++ third))
-  noted-all old started served new quiet first second third is start faults end =
-      rw is (noted-then old started new first (second ++ third) start.printed (λ failed. end.failed (faults.failed failed)) (noted-then started served new second third faults.printed end.failed end.printed))
+  -- three texts are printed without it, the second one on faults
+  pub noted-all : (Shows : ℕ → Type 0) (priorities : Bool) (exports : List ExportRecord) (old started served new : CountedRecord E) (quiet : Bool) (first third : List ℕ) (faults : List FirstFault) → quiet ≡ false
+      → IsPrinted contents old started first → IsPrinted contents served new third → IsReported contents Shows priorities exports started served faults
+      → IsNotedUnless quiet (λ met. first ++ (report_text priorities exports met ++ third)) (notes_of contents old new) faults
+  noted-all Shows priorities exports old started served new quiet first third faults is start end reported =
+      let second = report_text priorities exports reported.met in
+      let rest = noted-then started served new second third reported.printed.printed end.failed end.printed in
+      rw is (reported.met, reported.faults_are, noted-then old started new first (second ++ third) start.printed (λ failed. end.failed (reported.printed.failed failed)) rest)

@@ -64,7 +64,7 @@ module _ {S D R T : Type 0} (relations : Opener S D) (state : D → Device) (rem
 -- ---- with a client, lent by who runs the command
 
 -- what was exchanged with a client, by what its references held before the call and hold after it
-abbrev pub exchanged : {R T E X : Type 0} → (R → Option (List ℕ)) → (T → Option (List ℕ)) → (E → Option (List ℕ)) → Client R T E
+abbrev pub exchanged : {R T E J X : Type 0} → (R → Option (List ℕ)) → (T → Option (List ℕ)) → (E → Option (List ℕ)) → Client R T E J
     → MutBor (CountedRecord R) × (MutBor (CountedRecord T) × (MutBor (CountedRecord E) × X)) → Exchange
 exchanged remaining contents printed old new = exchange
     (streams (remaining old.reader.now.inner) (contents old.writer.now.inner))
@@ -72,8 +72,8 @@ exchanged remaining contents printed old new = exchange
     old.quiet
     (notes_of printed old.errors.now new.1.1.0.now)
 
-module _ {S D R T E X : Type 0} (relations : Opener S D) (state : D → Device) (remaining : R → Option (List ℕ)) (contents : T → Option (List ℕ)) (printed : E → Option (List ℕ))
-    (images images' : S) (old : Client R T E) (new : MutBor (CountedRecord R) × (MutBor (CountedRecord T) × (MutBor (CountedRecord E) × X))) where
+module _ {S D R T E J X : Type 0} (relations : Opener S D) (state : D → Device) (remaining : R → Option (List ℕ)) (contents : T → Option (List ℕ)) (printed : E → Option (List ℕ))
+    (images images' : S) (old : Client R T E J) (new : MutBor (CountedRecord R) × (MutBor (CountedRecord T) × (MutBor (CountedRecord E) × X))) where
   abbrev client_calls : Calls S D
   client_calls = calls relations state images images'
 

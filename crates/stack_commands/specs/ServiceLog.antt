@@ -1,10 +1,18 @@
 -- What `nbd` prints among the errors while it serves a client.
-use Rattle.std.specs.Prelude.{◌≡◌, ℕ, ◌-◌, ◌==◌, Bool, true, false, List, ◌++◌, codes, decimal, flat_map, length, Result, Ok, Err, if◌then◌else◌}
+use Rattle.std.specs.Prelude.{◌≡◌, ℕ, ◌-◌, ◌==◌, Bool, true, false, List, [], ◌∷◌, ◌++◌, codes, decimal, flat_map, Option, Some, None, Result, Ok, Err, if◌then◌else◌}
+use Rattle.hex.specs.Hex.{encode_lower}
+use Rattle.dm_table.specs.declared.table.Line.{Line}
+use Rattle.dm_table.specs.declared.table.Target.{Target}
+use Rattle.dm_table.specs.declared.table.Target.TheVariants as target
+use Rattle.stack_rules.specs.Names.{lines_of}
+use Rattle.stack_rules.specs.Records.{Configuration}
 use Rattle.nbd_protocol.specs.Exports.{ExportRecord}
 use Rattle.nbd_protocol.specs.declared.fault.ServiceFault.{ServiceFault}
 use Rattle.nbd_protocol.specs.declared.fault.ServiceFault.TheVariants as service
-use Rattle.nbd_server.specs.FaultLines.{fault_lines}
+use Rattle.nbd_server.specs.FaultLines.{report_text}
+use Rattle.nbd_server.specs.FaultLog.{MetFault, faults_in}
 use Rattle.nbd_server.specs.Service.{IsService}
+use Rattle.nbd_server.specs.declared.first_faults.FirstFault.{FirstFault}
 use Rattle.nbd_server.specs.declared.session_end.SessionEnd.{SessionEnd}
 use Rattle.nbd_server.specs.declared.session_end.SessionEnd.TheVariants as session
 use Rattle.nbd_server.specs.declared.session_log.SessionLog.{SessionLog}
@@ -19,25 +27,47 @@ use Rattle.request_queue.specs.World.{World}
 abbrev pub rights_text : Bool → List ℕ
 rights_text writable = if writable then codes "rw" else codes "ro"
 
+-- the root hash of a `verity` line
+abbrev pub target_root : Target → Option (List ℕ)
+target_root (target.Verity verity) = Some verity.root
+target_root other = None
+
+-- that of a mapped device whose only line is such a line
+abbrev pub only_root : List Line → Option (List ℕ)
+only_root (line ∷ []) = target_root line.target
+only_root lines = None
+
+-- `, root HEX`, if there is a root hash
+unfoldable pub root_words : List ℕ → List ℕ
+root_words root = codes ", root " ++ encode_lower root
+
+abbrev pub root_end : Option (List ℕ) → List ℕ
+root_end (Some root) = root_words root
+root_end None = codes ""
+
 -- ` SIZE bytes rw`, or `ro`
 abbrev pub export_facts : ℕ → Bool → List ℕ
-export_facts size writable = codes " " ++ (decimal size ++ (codes " bytes " ++ (rights_text writable ++ codes "\n")))
+export_facts size writable = codes " " ++ (decimal size ++ (codes " bytes " ++ rights_text writable))
 
--- its name, size and rights; the name of a mapped device has no control characters
-unfoldable pub named_facts : ExportRecord → List ℕ
-named_facts e = e.name ++ export_facts e.size e.writable
+-- the root hash of an export of these lines, and the end of the line
+unfoldable pub root_facts : List Line → List ℕ
+root_facts lines = root_end (only_root lines) ++ codes "\n"
+
+-- its size, its rights and its root hash
+unfoldable pub export_words : Configuration → ExportRecord → List ℕ
+export_words c e = export_facts e.size e.writable ++ root_facts (lines_of c e.device)
+
+-- its name before them; the name of a mapped device has no control characters
+unfoldable pub named_facts : Configuration → ExportRecord → List ℕ
+named_facts c e = e.name ++ export_words c e
 
 -- the line of an export
-unfoldable pub export_line : ExportRecord → List ℕ
-export_line e = codes "dmstack: export " ++ named_facts e
+unfoldable pub export_line : Configuration → ExportRecord → List ℕ
+export_line c e = codes "dmstack: export " ++ named_facts c e
 
 -- a line for each export
-abbrev pub start_text : List ExportRecord → List ℕ
-start_text exports = flat_map export_line exports
-
--- so many more requests had faults; nothing if there are none
-unfoldable pub more_text : ℕ → List ℕ
-more_text count = if count == 0 then codes "" else codes "dmstack: " ++ (decimal count ++ codes " more faulty requests\n")
+abbrev pub start_text : Configuration → List ExportRecord → List ℕ
+start_text c exports = flat_map (export_line c) exports
 
 -- why a session ended
 abbrev pub end_reason : Result SessionEnd ServiceFault → List ℕ
@@ -76,10 +106,14 @@ served_line t restored reason = tally_text t ++ ending_text restored reason
 
 -- ---- what was printed
 
--- a text was printed among the errors, or they failed; nothing with `--quiet`
-abbrev pub IsNotedUnless : Bool → Notes → List ℕ → Type 0
-IsNotedUnless true notes text = notes.new ≡ notes.old
-IsNotedUnless false notes text = IsNoted notes text
+-- a text on the faults was printed among the errors, by when they were met, or the errors failed
+abbrev pub IsMetNoted : (List MetFault → List ℕ) → Notes → List FirstFault → Type 0
+IsMetNoted text notes faults = (met : List MetFault) × (faults ≡ faults_in met) × IsNoted notes (text met)
+
+-- nothing with `--quiet`
+abbrev pub IsNotedUnless : Bool → (List MetFault → List ℕ) → Notes → List FirstFault → Type 0
+IsNotedUnless true text notes faults = notes.new ≡ notes.old
+IsNotedUnless false text notes faults = IsMetNoted text notes faults
 
 -- what is read of a client, written to it and printed among the errors while it is served, and whether `--quiet` is given
 pub record Exchange : Type 0 where
@@ -91,19 +125,19 @@ pub record Exchange : Type 0 where
 abbrev pub exchange : Streams → Streams → Bool → Notes → Exchange
 exchange old new quiet notes = record { old = old; new = new; quiet = quiet; notes = notes }
 
--- what is printed after a session: how many requests had faults that weren't printed, and its tally, with the number of blocks that
--- were restored
-abbrev pub ended_text : SessionLog → ℕ → List ℕ → List ℕ
-ended_text log restored reason = more_text (log.tally.faults - length log.first) ++ served_line log.tally restored reason
+-- what is printed after a session: its tally, with the number of blocks that were restored
+abbrev pub end_text : Tally → ℕ → Result SessionEnd ServiceFault → List ℕ
+end_text t restored outcome = served_line t restored (end_reason outcome)
 
-abbrev pub end_text : SessionLog → ℕ → Result SessionEnd ServiceFault → List ℕ
-end_text log restored outcome = ended_text log restored (end_reason outcome)
+-- what is printed of a session: a line for each export before, those on faults, and that on the tally after
+abbrev pub session_text : Bool → List ExportRecord → World → World → SessionLog → Result SessionEnd ServiceFault → List MetFault → List ℕ
+session_text priorities exports begin last log outcome met =
+    start_text begin.stack.config exports ++ (report_text priorities exports met ++ end_text log.tally (last.stack.restored - begin.stack.restored) outcome)
 
--- a client was served these exports; a line for each was printed before, one for each of the first faults, and those on the tally
--- after
+-- a client was served these exports, and this was printed of its session; lines on faults have priorities or not
 pub record ServesNoted (x : Exchange) (exports : List ExportRecord) (begin last : World) (log : SessionLog) (outcome : Result SessionEnd ServiceFault) : Type 0 where
-  pub service : IsService exports begin last x.old x.new log outcome
-  pub noted : IsNotedUnless x.quiet x.notes (start_text exports ++ (fault_lines exports log.first ++ end_text log (last.stack.restored - begin.stack.restored) outcome))
+  pub priorities : Bool
+  pub service : IsService exports begin last x.old x.new log (IsNotedUnless x.quiet (session_text priorities exports begin last log outcome) x.notes) outcome
 
 -- nothing was read, written or printed
 abbrev pub IsUnbegun : Exchange → Type 0

@@ -30,6 +30,7 @@ use find_commands::invoke_find;
 use image_commands::Generators;
 use image_files::Images;
 use manual_pages::{page_of, print_page, print_version};
+use nbd_server::Journal;
 use partition_commands::invoke_partitions;
 use program_io::Counted;
 use std::alloc::Global;
@@ -41,7 +42,14 @@ use verity_commands::{invoke_dump, invoke_format, invoke_table, invoke_table_tre
 /// # Errors
 ///
 /// That of the command, in the variant of its crate's fault.
-pub fn invoke<'a, I: Images, G: Generators + Progress + Watchers, S: Read, W: Write, E: Write>(
+pub fn invoke<
+    'a,
+    I: Images,
+    G: Generators + Progress + Watchers + Journal,
+    S: Read,
+    W: Write,
+    E: Write,
+>(
     alloc: Global,
     images: &mut I,
     generators: &mut G,
@@ -71,6 +79,7 @@ pub fn invoke<'a, I: Images, G: Generators + Progress + Watchers, S: Read, W: Wr
                 writer,
                 errors,
                 quiet: options.quiet,
+                journal: &*generators,
             };
             invoke_nbd(alloc, images, words, client)
         }
@@ -80,6 +89,7 @@ pub fn invoke<'a, I: Images, G: Generators + Progress + Watchers, S: Read, W: Wr
                 writer,
                 errors,
                 quiet: options.quiet,
+                journal: &*generators,
             };
             invoke_exports(alloc, images, words, client)
         }

@@ -9,6 +9,7 @@ mod diff;
 mod ending;
 mod ending_object;
 mod ending_parts;
+mod export_log;
 mod fault;
 mod fault_texts;
 mod invocation;

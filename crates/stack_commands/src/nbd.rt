@@ -6,13 +6,14 @@ ghost use Rattle.stack_commands.specs.Served.{DoesExports, DoesNbd, EndsAll, End
 ghost use Rattle.stack_commands.specs.ServiceLog.{ServesNoted};
 
 use crate::client::Client;
+use crate::export_log::note_start;
 use crate::fault::CommandFault;
-use crate::service_log::{note_end, note_start, restored_since};
+use crate::service_log::{note_end, restored_since};
 use block_device::{BlockDev, SyncDev};
 use command_line::{Binding, ExportsWords, NbdWords, ServedDevice};
 use image_files::Images;
 use nbd_protocol::{Export, exports_of, names_of};
-use nbd_server::{ServiceFault, SessionEnd, SessionLog, serve, serve_logged};
+use nbd_server::{Journal, LogOutput, ServiceFault, SessionEnd, SessionLog, serve, serve_logged};
 use request_queue::Queue;
 use stack_files::{StackFault, StackFile, open_loaded, sync_and_close};
 use std::alloc::Global;
@@ -27,11 +28,11 @@ use std::io::{Read, Write};
 /// - `Service` if the service ended early.
 /// - `Io` if the images can't be synced.
 /// - `Faults` if a request ended with a fault.
-pub fn invoke_nbd<'a, I: Images, R: Read, W: Write, E: Write>(
+pub fn invoke_nbd<'a, I: Images, R: Read, W: Write, E: Write, J: Journal>(
     alloc: Global,
     images: &mut I,
     words: NbdWords<'a>,
-    client: Client<'_, R, W, E>,
+    client: Client<'_, R, W, E, J>,
 ) -> Result<(), CommandFault<'a>>
     ensures ok { OnOk result (DoesNbd I.relations I.Dev.state R.remaining W.contents E.contents images.old images.new client.entry client.exit words.entry) }
     ensures err { IfErr result (EndsNbd I.relations I.Dev.state R.remaining W.contents E.contents images.old images.new client.entry client.exit words.entry) }
@@ -49,11 +50,11 @@ pub fn invoke_nbd<'a, I: Images, R: Read, W: Write, E: Write>(
 /// - `Service` if the service ended early.
 /// - `Io` if the images can't be synced.
 /// - `Faults` if a request ended with a fault.
-pub fn invoke_exports<'a, I: Images, R: Read, W: Write, E: Write>(
+pub fn invoke_exports<'a, I: Images, R: Read, W: Write, E: Write, J: Journal>(
     alloc: Global,
     images: &mut I,
     words: ExportsWords<'a>,
-    client: Client<'_, R, W, E>,
+    client: Client<'_, R, W, E, J>,
 ) -> Result<(), CommandFault<'a>>
     ensures ok { OnOk result (DoesExports I.relations I.Dev.state R.remaining W.contents E.contents images.old images.new client.entry client.exit words.entry) }
     ensures err { IfErr result (EndsExports I.relations I.Dev.state R.remaining W.contents E.contents images.old images.new client.entry client.exit words.entry) }
@@ -67,12 +68,12 @@ pub fn invoke_exports<'a, I: Images, R: Read, W: Write, E: Write>(
 }
 
 // Serves a device of a stack file. The images are synced and closed at the end.
-fn serve_client<'a, I: Images, R: Read, W: Write, E: Write>(
+fn serve_client<'a, I: Images, R: Read, W: Write, E: Write, J: Journal>(
     alloc: Global,
     images: &mut I,
     device: ServedDevice<'a>,
     bindings: &[Binding<'a>],
-    client: Client<'_, R, W, E>,
+    client: Client<'_, R, W, E, J>,
 ) -> Result<(), CommandFault<'a>>
     ensures ok { OnOk result (ServesDevice I.relations I.Dev.state R.remaining W.contents E.contents images.old images.new client.entry client.exit device.entry bindings.now) }
     ensures err { IfErr result (EndsClient I.relations I.Dev.state R.remaining W.contents E.contents images.old images.new client.entry client.exit device.entry bindings.now) }
@@ -99,13 +100,13 @@ fn serve_client<'a, I: Images, R: Read, W: Write, E: Write>(
 }
 
 // Each device of a stack file, under its name.
-fn serve_exports<'a, I: Images, R: Read, W: Write, E: Write>(
+fn serve_exports<'a, I: Images, R: Read, W: Write, E: Write, J: Journal>(
     alloc: Global,
     images: &mut I,
     cache: u32,
     stack: &'a str,
     bindings: &[Binding<'a>],
-    client: Client<'_, R, W, E>,
+    client: Client<'_, R, W, E, J>,
 ) -> Result<(), CommandFault<'a>>
     ensures ok { OnOk result (ServesEach I.relations I.Dev.state R.remaining W.contents E.contents images.old images.new client.entry client.exit cache stack.now bindings.now) }
     ensures err { IfErr result (EndsAll I.relations I.Dev.state R.remaining W.contents E.contents images.old images.new client.entry client.exit cache stack.now bindings.now) }
@@ -133,13 +134,13 @@ fn serve_exports<'a, I: Images, R: Read, W: Write, E: Write>(
     Err(CommandFault::Faults(tally))
 }
 
-// Serves the exports. Among the errors a line for each of them is printed before, that of a fault after the reply to its request is
-// flushed, and those on the tally after.
-fn serve_noted<D: SyncDev, R: Read, W: Write, E: Write>(
+// Serves the exports. Among the errors a line for each of them is printed before, those of a fault after the reply to its request is
+// flushed, and that on the tally after.
+fn serve_noted<D: SyncDev, R: Read, W: Write, E: Write, J: Journal>(
     alloc: Global,
     queue: &mut Queue<D>,
     exports: &[Export<'_>],
-    client: Client<'_, R, W, E>,
+    client: Client<'_, R, W, E, J>,
     log: &mut SessionLog,
 ) -> Result<SessionEnd, ServiceFault>
     requires { AreExports queue.old.stack.config exports.now }
@@ -151,14 +152,19 @@ fn serve_noted<D: SyncDev, R: Read, W: Write, E: Write>(
         writer,
         errors,
         quiet,
+        journal,
     } = client;
     if quiet {
         return serve(alloc, queue, exports, reader, writer, log);
     }
-    note_start(errors, exports);
+    note_start(errors, queue.stack().config(), exports);
     let before = restored_since(queue, 0);
-    let outcome = serve_logged(queue, exports, reader, writer, errors, log);
+    let output = LogOutput {
+        errors: &mut *errors,
+        journal,
+    };
+    let outcome = serve_logged(queue, exports, reader, writer, output, log);
     let restored = restored_since(queue, before);
-    note_end(errors, log, restored, &outcome);
+    note_end(errors, log.tally, restored, &outcome);
     outcome
 }

@@ -22,6 +22,7 @@ use fec_commands::FecFault;
 use image_commands::Generators;
 use image_files::Images;
 use manual_pages::{print_message, print_usage_error};
+use nbd_server::Journal;
 use program_io::{Counted, WriteFault};
 use stack_files::resolve_bindings;
 use std::alloc::Global;
@@ -39,7 +40,13 @@ const UNPRINTED: u8 = 1;
 /// data for another program; so do the explanation of a usage error, beside `usage`, the sentence on any other end, and the
 /// warnings of the table that `partitions` finds.
 /// If the writer fails, `errors` gets the reason of every other command, too.
-pub fn command<I: Images, G: Generators + Progress + Watchers, S: Read, W: Write, E: Write>(
+pub fn command<
+    I: Images,
+    G: Generators + Progress + Watchers + Journal,
+    S: Read,
+    W: Write,
+    E: Write,
+>(
     alloc: Global,
     images: &mut I,
     generators: &mut G,
@@ -201,7 +208,7 @@ fn resolve_line<'a, I: Images>(
 }
 
 // Files are opened in the order of the words, once all words are read and the partitions are looked up.
-fn run<'a, I: Images, G: Generators + Progress + Watchers, S: Read, W: Write, E: Write>(
+fn run<'a, I: Images, G: Generators + Progress + Watchers + Journal, S: Read, W: Write, E: Write>(
     alloc: Global,
     images: &mut I,
     generators: &mut G,

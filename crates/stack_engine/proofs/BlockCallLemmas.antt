@@ -230,9 +230,9 @@ module _ {D : Type 0} {does : D → Call → D → Type 0} {c : Configuration} {
     stood-first low = ap (λ (l : List ℕ). l ++ drop (block_size x) (ahead (block_size x) r j out)) (sym stood-is) ∙ ahead-first (block_size x) r j out low
 
     -- it has another digest, and its spare can't be read
-    pub block-unhealed : is_ignored x.verity.now way.0 ≡ false → j < r → (digest x.verity.now.salt stood ≡ way.0 → ⊥) → {to : Served D} (vain : IoFault) → ReadsBy does c (spare_of (nth_place x j) way.0) new to (Err vain) → Gives does c (Blocks x) n old to (Err (unhealed why.Mismatch vain))
+    pub block-unhealed : is_ignored x.verity.now way.0 ≡ false → j < r → (digest x.verity.now.salt stood ≡ way.0 → ⊥) → {to : Served D} (vain : IoFault) → ReadsBy does c (spare_of (nth_place x j) way.0) new to (Err vain) → Gives does c (Blocks x) n old to (Err (unhealed (io.Stack why.Mismatch) vain))
     block-unhealed used low other {to = to} vain got =
-        h.later to (Err (unhealed why.Mismatch vain)) (subst (λ (l : List ℕ). ReadsBy does c (data_of (nth_place x j) 0 way.0 way.1 (blocks_left (blocks_in x n - j) l)) new to (Err (unhealed why.Mismatch vain))) (stood-first low)
+        h.later to (Err (unhealed (io.Stack why.Mismatch) vain)) (subst (λ (l : List ℕ). ReadsBy does c (data_of (nth_place x j) 0 way.0 way.1 (blocks_left (blocks_in x n - j) l)) new to (Err (unhealed (io.Stack why.Mismatch) vain))) (stood-first low)
         (reads-as (λ calls a. next_differs (blocks_in x n - j) stood (drop (block_size x) (ahead (block_size x) r j out)) way.1 used (stood-wide ∙ whole) other a) got))
 
     block-on : {to : Served D} (block : List ℕ) → length block ≡ block_size x

@@ -24,15 +24,19 @@ use Rattle.stack_meaning.specs.Outcomes.{Images}
 use Rattle.stack_meaning.specs.Found.{FoundRecord, Entry, found_entry}
 use Rattle.stack_meaning.specs.Beneath.{below}
 use Rattle.stack_meaning.specs.Meaning.{none_said, said_by_name}
-use Rattle.stack_meaning.specs.Reading.{MeetVerity}
-use Rattle.stack_meaning.specs.Kept.{target_leaves, verity_block, LineKeeps, IsOfVerity, IsKept, AllKept}
-use Rattle.stack_meaning.specs.Leaves.{steady_images, AreSteady}
+use Rattle.stack_meaning.specs.Agreement.{AgreesOn}
+use Rattle.stack_meaning.specs.Reading.{IsCertain, MeetVerity}
+use Rattle.stack_meaning.specs.Kept.{AreCertain, target_leaves, verity_block, LineKeeps, IsOfVerity, IsKept, AllKept}
+use Rattle.stack_meaning.specs.Leaves.{steady_images}
 use Rattle.stack_lines.specs.Caches.{StackCache}
 use Rattle.stack_lines.specs.Sources.{LieInBlock, source_said, source_place, ReadsSource}
-use Rattle.stack_lines.specs.Walks.{HasVerity, block_in, chain_expected, GetsChain}
+use Rattle.stack_lines.specs.Walks.{AgreesAt, HasVerity, block_in, chain_expected, GetsChain}
 use Rattle.stack_meaning.proofs.lemmas.LeafListLemmas.{AreRead-none, AreRead-more, AreSteady-kept, AreSteady-within, images-kept}
 use Rattle.stack_lines.proofs.lemmas.BudgetLemmas.{chain-cost as priced}
+use Rattle.stack_lines.proofs.lemmas.BlockAgreementLemmas.{block-agreed, line-agreed}
 use Rattle.stack_lines.proofs.lemmas.TouchLemmas.{verity-leaves, verity-names}
+use Rattle.stack_lines.specs.Touches.{leaves_of}
+use Rattle.stack_meaning.proofs.lemmas.AgreementLemmas.{agrees-within}
 use Rattle.stack_lines.proofs.lemmas.VerityLineLemmas.{IsWholeSectors, data-whole, part-index}
 use Rattle.stack_meaning.proofs.lemmas.FoundLemmas.{Grown-none, kept-later}
 use Rattle.stack_meaning.proofs.lemmas.RunLemmas.{Passes, pass}
@@ -42,7 +46,7 @@ use Rattle.allocation.specs.Refusal.{IsOutOfMemory}
 use Rattle.stack_meaning.specs.Memory.{largest_allocation}
 
 -- what was found for an entry of a verity line
-pub kept_for : (c : Configuration) (leaves : List Device) (d l i : ℕ) (v : Verity) (x : FoundRecord) → HasVerity c d l v → found_entry x ≡ (d, l, i) → IsKept c leaves x → IsOfVerity (below none_said (said_by_name c) (verity_target v)) (target_leaves c (verity_target v)) leaves v x.chain
+pub kept_for : (c : Configuration) (leaves : List Device) (d l i : ℕ) (v : Verity) (x : FoundRecord) → HasVerity c d l v → found_entry x ≡ (d, l, i) → IsKept c leaves x → IsOfVerity (below none_said (said_by_name c) (verity_target v)) (AreCertain c (verity_target v)) leaves v x.chain
 kept_for c leaves d l i v x line at kept =
     let device : x.device ≡ d = ap (λ (e : Entry). e.0) at in
     let number : x.line ≡ l = ap (λ (e : Entry). e.1) at in
@@ -91,13 +95,18 @@ block-at {c = c} {p = p} {out = out} can =
     }
 
 module _ {c : Configuration} {p : VerityPart} {n : ℕ} (b : BlockAt c p n) where
-  passes : Passes (block_place (block_in c p.verity.now (p.first / block_sectors p.verity.now)) (p.device.0, p.line) p.first (read_cost c (mapped p.device.0))) (source_place c (Block p)) 0 0 n
+  passes : Passes (block_place (block_in c p.verity.now (p.first / block_sectors p.verity.now)) (p.device.0, p.line) p.first (read_cost c (mapped p.device.0)) (AgreesOn c (leaves_of c (mapped p.device.0)))) (source_place c (Block p)) 0 0 n
   passes = record {
     said = λ j h.
         refl;
     cost = omega arith;
     leaves = λ i is. verity-names c p.device.0 p.line 0 p.verity.now b.loaded b.line i (subst IsTrue (sym (verity-leaves c p.verity.now 0 i)) is);
+    agrees = λ images all. all;
   }
+
+  -- what the leaves beneath the device agree on
+  agreed : (images : Images) → AgreesOn c (leaves_of c (mapped p.device.0)) images → AgreesAt (block_in c p.verity.now (p.first / block_sectors p.verity.now)) images
+  agreed images = block-agreed c p.device.0 p.line p.verity.now (p.first / block_sectors p.verity.now) b.line b.there images b.loaded
 
   block-cost : (chain_expected (block_in c p.verity.now (p.first / block_sectors p.verity.now))).cost ≤ read_cost c (mapped p.device.0)
   block-cost =
@@ -112,8 +121,11 @@ module _ {c : Configuration} {p : VerityPart} {n : ℕ} (b : BlockAt c p n) wher
       let one = kept_for c leaves p.device.0 p.line (p.first / block_sectors p.verity.now) p.verity.now x b.line here (kept_at c leaves found x kept given) in
       let number : x.chain.index ≡ p.first / block_sectors p.verity.now = ap (λ (e : Entry). e.2) here in
       pass passes (record { old = leaves; new = leaves; before = found; after = found }) (Ok _) (record {
-        got = chain_fills (block_in c p.verity.now (p.first / block_sectors p.verity.now)) (p.device.0, p.line) p.first n (read_cost c (mapped p.device.0)) refl b.within b.size.whole found x (AreRead-none _ leaves)
-            (λ steady. ap (verity_block c (steady_images leaves) p.verity.now) (sym number) ∙ one.exact (AreSteady-within leaves (λ i is. subst IsTrue (verity-leaves c p.verity.now 0 i) is) steady)) one.good here given is;
+        got = chain_fills (block_in c p.verity.now (p.first / block_sectors p.verity.now)) (p.device.0, p.line) p.first n (read_cost c (mapped p.device.0)) (AgreesOn c (leaves_of c (mapped p.device.0))) agreed refl b.within b.size.whole found x b.some (AreRead-none _ leaves)
+            (λ steady agrees. ap (verity_block c (steady_images leaves) p.verity.now) (sym number) ∙ one.exact (record {
+              steady = AreSteady-within leaves (λ i is. subst IsTrue (verity-leaves c p.verity.now 0 i) is) steady;
+              agrees = agrees-within c (steady_images leaves) (verity-names c p.device.0 p.line 0 p.verity.now b.loaded b.line) agrees;
+            })) one.good here given is;
         grown = Grown-none _ 0 n found;
         kept = kept;
       })
@@ -126,16 +138,18 @@ module _ {c : Configuration} {p : VerityPart} {n : ℕ} (b : BlockAt c p n) wher
   part_walked {old = old} {new = new} found chain kept q is =
       let x : FoundRecord = record { device = p.device.0; line = p.line; chain = chain } in
       let here : found_entry x ≡ (p.device.0, p.line, p.first / block_sectors p.verity.now) = ap (λ (k : ℕ). (p.device.0, p.line, k)) q.may.0 in
-      let one : IsOfVerity (below none_said (said_by_name c) (verity_target p.verity.now)) (target_leaves c (verity_target p.verity.now)) new p.verity.now chain = record {
+      let one : IsOfVerity (below none_said (said_by_name c) (verity_target p.verity.now)) (AreCertain c (verity_target p.verity.now)) new p.verity.now chain = record {
         good = q.may.1;
-        exact = λ steady.
-            let before : AreSteady (chain_expected (block_in c p.verity.now (p.first / block_sectors p.verity.now))).leaves old =
-            AreSteady-kept new old (sym q.moved.moved.fixed) (AreSteady-within new (λ i is. subst IsTrue (sym (verity-leaves c p.verity.now 0 i)) is) steady) in
+        exact = λ sure.
+            let before : IsCertain (chain_expected (block_in c p.verity.now (p.first / block_sectors p.verity.now))) old = record {
+              steady = AreSteady-kept new old (sym q.moved.moved.fixed) (AreSteady-within new (λ i is. subst IsTrue (sym (verity-leaves c p.verity.now 0 i)) is) sure.steady);
+              agrees = λ meets. line-agreed c p.device.0 p.line p.verity.now (p.first / block_sectors p.verity.now) b.line b.there (steady_images old) (subst (AgreesOn c (target_leaves c (verity_target p.verity.now))) (images-kept q.moved) sure.agrees);
+            } in
             ap (verity_block c (steady_images new) p.verity.now) q.may.0 ∙ ap (λ (m : Images). verity_block c m p.verity.now (p.first / block_sectors p.verity.now)) (images-kept q.moved) ∙ q.exact before;
       } in
       pass passes (record { old = old; new = new; before = found; after = found ++ (x ∷ []) }) (Ok _) (record {
-        got = chain_fills (block_in c p.verity.now (p.first / block_sectors p.verity.now)) (p.device.0, p.line) p.first n (read_cost c (mapped p.device.0)) refl b.within b.size.whole (found ++ (x ∷ [])) x
-            (AreRead-more (let most = mul-le-mul_right (read_cost c (mapped p.device.0)) b.some in omega (arith, most, block-cost)) q.moved) q.exact q.may.1 here (Contains-push found x) is;
+        got = chain_fills (block_in c p.verity.now (p.first / block_sectors p.verity.now)) (p.device.0, p.line) p.first n (read_cost c (mapped p.device.0)) (AgreesOn c (leaves_of c (mapped p.device.0))) agreed refl b.within b.size.whole (found ++ (x ∷ [])) x b.some
+            (AreRead-more (let most = mul-le-mul_right (read_cost c (mapped p.device.0)) b.some in omega (arith, most, block-cost)) q.moved) (λ steady agrees. q.exact (record { steady = steady; agrees = λ meets. agreed (steady_images old) agrees })) q.may.1 here (Contains-push found x) is;
         grown = Grown-push _ 0 n found x b.some (0, omega arith, (let e : p.first + 0 ≡ p.first = omega arith in ap (λ (k : ℕ). (p.device.0, p.line, k / block_sectors p.verity.now)) e ∙ sym here));
         kept = AllKept-push c new found x (kept-later c found q.moved kept) (record { line = b.line.line; is = b.line.is; keeps = subst (λ (t : Target). LineKeeps c new t chain) (sym b.line.has) one });
       })
@@ -145,7 +159,7 @@ module _ {c : Configuration} {p : VerityPart} {n : ℕ} (b : BlockAt c p n) wher
       → ReadsSource c (Block p) n (record { old = old; new = new; before = found; after = found }) (Err fault)
   part_err {old = old} {new = new} found fault kept q =
       pass passes (record { old = old; new = new; before = found; after = found }) (Err fault) (record {
-        got = block_fails (block_in c p.verity.now (p.first / block_sectors p.verity.now)) (p.device.0, p.line) p.first n (read_cost c (mapped p.device.0)) refl b.within b.size.whole found fault b.some block-cost q;
+        got = block_fails (block_in c p.verity.now (p.first / block_sectors p.verity.now)) (p.device.0, p.line) p.first n (read_cost c (mapped p.device.0)) (AgreesOn c (leaves_of c (mapped p.device.0))) agreed refl b.within b.size.whole found fault b.some block-cost q;
         grown = Grown-none _ 0 n found;
         kept = kept-later c found q.moved kept;
       })
@@ -157,7 +171,7 @@ module _ {c : Configuration} {p : VerityPart} {n : ℕ} (b : BlockAt c p n) wher
     got = record {
       moved = AreRead-more (let most = mul-le-mul_right (read_cost c (mapped p.device.0)) b.some in omega (arith, most, block-cost)) q.moved;
       may = refused;
-      exact = λ steady. tt;
+      exact = λ sure. tt;
     };
     grown = Grown-none _ 0 n found;
     kept = kept-later c found q.moved kept;

@@ -1,134 +1,49 @@
 -- Whole data blocks of a verity line of a configuration, which are read at once.
-use Rattle.std.proofs.Common.{◌≡◌, ℕ, zero, suc, ◌+◌, ◌*◌, ◌/◌, ◌%◌, ◌<◌, ◌≤◌, IsTrue, Bool, List, [], ◌∷◌, ◌++◌, length, get_or, take, drop, Some, Result, Ok, Err, inl, inr, refl, sym, ap, ◌∙◌, subst, arith}
-use Rattle.std.proofs.lemmas.Bool.{cases_lt}
+use Rattle.std.proofs.Common.{◌≡◌, ℕ, ◌+◌, ◌*◌, ◌/◌, ◌%◌, ◌<◌, ◌≤◌, IsTrue, List, [], ◌∷◌, ◌++◌, length, get_or, take, drop, Result, Ok, Err, inl, refl, sym, ap, ◌∙◌, subst, arith}
 use Rattle.std.proofs.lemmas.List.{take_all, length-take-le, length-drop}
 use Rattle.std.proofs.lemmas.List.Elements.{All-cons, All-nil, All-append, Contains-push}
 use Rattle.std.proofs.lemmas.Nat.{div-add-mod', div-mul-add, mod-mul-add}
 use Rattle.std.proofs.Math.Nat.{add-mul, mul-add, mul_assoc, mul-le-mul_left, mul-le-mul_right}
 use Rattle.hash_tree.specs.Chain.{ChainRecord}
-use Rattle.tree_shape.specs.Digests.{digest}
 use Rattle.tree_shape.specs.Shape.{levels}
 use Rattle.block_device.specs.Device.{Device}
-use Rattle.dm_table.specs.declared.verity.Verity.{Verity}
 use Rattle.dm_table.specs.declared.table.Target.{Target}
 use Rattle.dm_table.specs.declared.table.Target.TheVariants.{Verity as verity_target}
 use Rattle.stack_rules.specs.Records.{Configuration}
-use Rattle.stack_rules.specs.Names.{mapped, named, size as lower_size}
+use Rattle.stack_rules.specs.Names.{mapped}
 use Rattle.stack_rules.specs.Descend.{by_name, read_cost, line_read_cost}
-use Rattle.stack_rules.specs.Rules.{IsLoaded}
 use Rattle.stack_rules.specs.Trees.{tree_of, block_sectors}
 use Rattle.stack_config.proofs.lemmas.LoadedLineLemmas.{line-read-cost}
 use Rattle.stack_meaning.specs.declared.fault.IoFault.{IoFault}
 use Rattle.stack_meaning.specs.declared.fault.IoFault.TheVariants as io
 use Rattle.stack_lines.specs.declared.source.VerityPart.{VerityPart}
 use Rattle.stack_lines.specs.declared.source.Source.TheVariants.{Blocks}
-use Rattle.stack_meaning.specs.Outcomes.{Images, mismatch, span}
+use Rattle.stack_meaning.specs.Outcomes.{Images, mismatch}
 use Rattle.stack_meaning.specs.Blocks.{hash_sectors}
 use Rattle.stack_meaning.specs.Found.{FoundRecord, Entry, found_entry}
 use Rattle.stack_meaning.specs.Beneath.{below}
 use Rattle.stack_meaning.specs.Meaning.{line_said, none_said, said_by_name}
-use Rattle.stack_meaning.specs.Places.{Place, place_of, run_expected, LeafRead}
-use Rattle.stack_meaning.specs.Reading.{Gets, Finds, MeetVerity}
+use Rattle.stack_meaning.specs.Places.{place_of, run_expected, LeafRead}
+use Rattle.stack_meaning.specs.Agreement.{AgreesOn}
+use Rattle.stack_meaning.specs.Reading.{Gets, Finds, IsCertain, MeetVerity}
 use Rattle.stack_meaning.specs.declared.fault.Fault.{Fault}
 use Rattle.stack_engine.specs.Healing.{unhealed}
-use Rattle.stack_meaning.specs.Kept.{target_leaves, verity_block, LineKeeps, IsOfVerity, AllKept}
-use Rattle.stack_meaning.specs.Leaves.{steady_images, AreSteady, AreRead}
-use Rattle.stack_lines.specs.AtOnce.{AreBefore, GoAtOnce}
-use Rattle.stack_lines.specs.Clear.{IsClear}
-use Rattle.stack_lines.specs.Caches.{StackCache}
-use Rattle.stack_lines.specs.Sources.{AreWholeBlocks, source_said, ReadsSource}
+use Rattle.stack_meaning.specs.Kept.{AreCertain, target_leaves, verity_block, LineKeeps, IsOfVerity, AllKept}
+use Rattle.stack_meaning.specs.Leaves.{steady_images, AreRead}
+use Rattle.stack_lines.specs.AtOnce.{AreBefore}
+use Rattle.stack_lines.specs.Sources.{source_said, ReadsSource}
+use Rattle.stack_lines.proofs.lemmas.BlockAgreementLemmas.{block-agreed, line-agreed}
 use Rattle.stack_lines.proofs.lemmas.BudgetLemmas.{chain-cost as priced}
 use Rattle.stack_lines.proofs.lemmas.TouchLemmas.{verity-leaves, verity-names}
 use Rattle.stack_lines.specs.Touches.{leaves_of}
-use Rattle.stack_lines.specs.Walks.{HasVerity, block_in, chain_expected, spare_cost, spare_expected, GetsChain}
+use Rattle.stack_lines.specs.Walks.{AgreesAt, block_in, chain_expected, spare_cost, spare_expected, GetsChain}
 use Rattle.stack_meaning.proofs.lemmas.LeafListLemmas.{AreRead-none, AreRead-more, AreSteady-kept, AreSteady-within, images-kept, failed_later}
 use Rattle.stack_meaning.proofs.lemmas.FoundLemmas.{Grown-none, kept-later}
 use Rattle.stack_meaning.proofs.lemmas.RunLemmas.{Passes, pass, AllMono, run_ok, run_err}
-use Rattle.stack_lines.proofs.lemmas.VerityLineLemmas.{IsWholeSectors, data-whole, blocks-below}
 use Rattle.stack_engine.proofs.lemmas.BlockLemmas.{block_place, chain_fills, block_fails, AllKept-push, Grown-push}
-use Rattle.stack_engine.specs.Premises.{CanRead}
 use Rattle.allocation.specs.Refusal.{IsOutOfMemory}
 use Rattle.stack_meaning.specs.Memory.{largest_allocation}
-
--- n sectors of a part, where so much is read for each as for all together at most
-abbrev pub blocks_place : Configuration → VerityPart → ℕ → Place
-blocks_place c p n = record { said = source_said c (Blocks p); cost = n * read_cost c (mapped p.device.0); leaves = leaves_of c (mapped p.device.0) }
-
--- what the way to a block costs
-abbrev pub path_cost : Configuration → Verity → ℕ
-path_cost c v = levels (tree_of v) * (hash_sectors v * (block_in c v 0).on_hash.cost)
-
--- what n sectors, so many ways to blocks, and so many spares cost
-abbrev pub read_cost_so_far : Configuration → Verity → ℕ → ℕ → ℕ → ℕ
-read_cost_so_far c v n ways spares = n * (block_in c v 0).on_data.cost + ways * path_cost c v + spares * spare_cost (block_in c v 0)
-
--- leaves that were read twice have the same images
-pub same-images : {old a b : List Device} {q r : ℕ} → AreRead old q a → AreRead old r b → {these : ℕ → Bool} → AreSteady these b → AreSteady these a × (steady_images b ≡ steady_images a)
-same-images {old = old} {a = a} {b = b} x y {these = these} steady =
-    let before : AreSteady these old = AreSteady-kept b old (sym y.moved.fixed) steady in
-    (AreSteady-kept old a x.moved.fixed before, images-kept y ∙ sym (images-kept x))
-
--- data block k of a part was read from the device beneath, since when no image changed, and its digest was made
-pub record IsRead (c : Configuration) (p : VerityPart) (old : List Device) (k : ℕ) (block made : List ℕ) : Type 0 where
-  pub from : List Device
-  pub ways : ℕ
-  pub first : AreRead old ways from
-  pub means : AreSteady (leaves_of c p.data) from → span (λ s. ((place_of c p.data).said s).means (steady_images from)) (p.first + k * block_sectors p.verity.now) (block_sectors p.verity.now) ≡ Ok block
-  pub made_is : made ≡ digest p.verity.now.salt block
-
--- what is known of whole data blocks that are read at once
-pub record BlocksAt (c : Configuration) (p : VerityPart) (n : ℕ) (found : List FoundRecord) : Type 0 where
-  pub loaded : IsLoaded c
-  pub line : HasVerity c p.device.0 p.line p.verity.now
-  pub is : named c p.verity.now.data ≡ Some p.data
-  pub aligned : p.first % block_sectors p.verity.now ≡ 0
-  pub size : IsWholeSectors p.verity.now.data_block
-  pub count : n / block_sectors p.verity.now * block_sectors p.verity.now ≡ n
-  pub some : 0 < n / block_sectors p.verity.now
-  pub few : n ≤ 128
-  pub clear : IsClear c p.data
-  pub before : AreBefore p.device.0 p.line (p.first / block_sectors p.verity.now) found
-  pub below : p.first + n ≤ lower_size c p.data
-  pub there : (j : ℕ) → j < n / block_sectors p.verity.now → p.first / block_sectors p.verity.now + j < p.verity.now.blocks
-
-pub blocks-at : {c : Configuration} {p : VerityPart} {leaves : List Device} {cache : StackCache} {found : List FoundRecord} {out : List ℕ} → CanRead c leaves cache found (Blocks p) out → BlocksAt c p (length out / 512) found
-blocks-at {c = c} {p = p} {found = found} {out = out} can =
-    let n : ℕ = length out / 512 in
-    let v : Verity = p.verity.now in
-    let loaded = can.stack.sound.loaded in
-    let blocks : AreWholeBlocks c p n = can.fits.holds in
-    let go : GoAtOnce c p n found = can.can_go in
-    let some : 0 < n = omega (arith, can.fits.sectors.some, can.fits.sectors.whole) in
-    let size = data-whole c p.device.0 p.line v loaded blocks.of.is in
-    let count : n / block_sectors v * block_sectors v ≡ n = omega (arith, div-add-mod' n (block_sectors v), blocks.whole) in
-    record {
-      loaded = loaded;
-      line = blocks.of.is;
-      is = blocks.of.on_data;
-      aligned = blocks.aligned;
-      size = size;
-      count = count;
-      some = quotient-some (n / block_sectors v) (block_sectors v) n count some;
-      few = go.few;
-      clear = go.clear;
-      before = go.before;
-      below = blocks-below c p n loaded blocks;
-      there = λ j inside.
-          let all : p.first / block_sectors v * block_sectors v ≡ p.first = omega (arith, div-add-mod' p.first (block_sectors v), blocks.aligned) in
-          let next : (j + 1) * block_sectors v ≤ n / block_sectors v * block_sectors v = mul-le-mul_right (block_sectors v) (omega (arith, inside)) in
-          let fits : (p.first / block_sectors v + j + 1) * block_sectors v ≤ v.blocks * block_sectors v = omega (arith, blocks.inside, all, next, count, add-mul (p.first / block_sectors v) (j + 1) (block_sectors v)) in
-          no-more (p.first / block_sectors v + j) v.blocks (block_sectors v) size.some fits;
-    }
-  where
-    quotient-some : (q u n : ℕ) → q * u ≡ n → 0 < n → 0 < q
-    quotient-some zero u n e some = let none : 0 * u ≡ 0 = omega arith in absurd (omega (arith, e, some, none))
-    quotient-some (suc q) u n e some = omega arith
-
-    no-more : (a b u : ℕ) → 1 ≤ u → (a + 1) * u ≤ b * u → a < b
-    no-more a b u some fits = elim (cases_lt a b) [
-      | inl low ↦ low
-      | inr high ↦ let more : (b + 1) * u ≤ (a + 1) * u = mul-le-mul_right u (omega (arith, high)) in absurd (omega (arith, more, fits, some, add-mul b 1 u))
-    ]
+use Rattle.stack_engine.proofs.BlocksAtLemmas.{part_agrees, blocks_place, path_cost, read_cost_so_far, BlocksAt}
 
 module _ {c : Configuration} {p : VerityPart} {n : ℕ} {found : List FoundRecord} (b : BlocksAt c p n found) where
   abbrev m : ℕ
@@ -151,14 +66,19 @@ module _ {c : Configuration} {p : VerityPart} {n : ℕ} {found : List FoundRecor
       let e : p.first + j * block_sectors p.verity.now ≡ (index + j) * block_sectors p.verity.now + 0 = omega (arith, start, add-mul index j (block_sectors p.verity.now)) in
       ap (λ (k : ℕ). k % block_sectors p.verity.now) e ∙ mod-mul-add (index + j) (block_sectors p.verity.now) 0 (omega (arith, b.size.some))
 
-  passes : (j k : ℕ) → Passes (block_place (block_in c p.verity.now (index + j)) (p.device.0, p.line) (p.first + j * block_sectors p.verity.now) k) (record { said = source_said c (Blocks p); cost = k; leaves = leaves_of c (mapped p.device.0) }) 0 (0 + j * block_sectors p.verity.now) (block_sectors p.verity.now)
+  passes : (j k : ℕ) → Passes (block_place (block_in c p.verity.now (index + j)) (p.device.0, p.line) (p.first + j * block_sectors p.verity.now) k (part_agrees c p)) (record { said = source_said c (Blocks p); cost = k; leaves = leaves_of c (mapped p.device.0); agrees = part_agrees c p }) 0 (0 + j * block_sectors p.verity.now) (block_sectors p.verity.now)
   passes j k = record {
     said = λ t h.
         let e : p.first + (0 + j * block_sectors p.verity.now + t) ≡ p.first + j * block_sectors p.verity.now + (0 + t) = omega arith in
         sym (ap (λ (s : ℕ). line_said (said_by_name c) p.device.0 p.line (verity_target p.verity.now) s) e);
     cost = omega arith;
     leaves = λ i is. verity-names c p.device.0 p.line 0 p.verity.now b.loaded b.line i (subst IsTrue (sym (verity-leaves c p.verity.now 0 i)) is);
+    agrees = λ images all. all;
   }
+
+  -- what the leaves agree on, of one block
+  block-agrees : (j : ℕ) → j < m → (images : Images) → part_agrees c p images → AgreesAt (block_in c p.verity.now (index + j)) images
+  block-agrees j inside images = block-agreed c p.device.0 p.line p.verity.now (index + j) b.line (b.there j inside) images b.loaded
 
   fits : (j : ℕ) → j < m → j * block_sectors p.verity.now + block_sectors p.verity.now ≤ n
   fits j inside =
@@ -216,7 +136,7 @@ module _ {c : Configuration} {p : VerityPart} {n : ℕ} {found : List FoundRecor
         got = record {
           moved = AreRead-none _ old;
           may = record { len = refl; sectors = λ j h. absurd (omega (arith, h)) };
-          exact = λ steady. refl;
+          exact = λ sure. refl;
         };
         grown = Grown-none _ 0 0 w;
         kept = kept;
@@ -238,36 +158,38 @@ module _ {c : Configuration} {p : VerityPart} {n : ℕ} {found : List FoundRecor
     blocks-more content path len got =
         let chain : ChainRecord = record { index = index + j; content = content; path = path } in
         let one : FoundRecord = record { device = p.device.0; line = p.line; chain = chain } in
-        let whole : IsOfVerity (below none_said (said_by_name c) (verity_target p.verity.now)) (target_leaves c (verity_target p.verity.now)) new p.verity.now chain = record {
+        let whole : IsOfVerity (below none_said (said_by_name c) (verity_target p.verity.now)) (AreCertain c (verity_target p.verity.now)) new p.verity.now chain = record {
           good = got.may.1;
-          exact = λ steady.
-              let before : AreSteady (chain_expected (block_in c p.verity.now (index + j))).leaves mid =
-              AreSteady-kept new mid (sym moved.moved.fixed) (AreSteady-within new (λ i is. subst IsTrue (sym (verity-leaves c p.verity.now 0 i)) is) steady) in
+          exact = λ sure.
+              let before : IsCertain (chain_expected (block_in c p.verity.now (index + j))) mid = record {
+                steady = AreSteady-kept new mid (sym moved.moved.fixed) (AreSteady-within new (λ i is. subst IsTrue (sym (verity-leaves c p.verity.now 0 i)) is) sure.steady);
+                agrees = λ meets. line-agreed c p.device.0 p.line p.verity.now (index + j) b.line (b.there j inside) (steady_images mid) (subst (AgreesOn c (target_leaves c (verity_target p.verity.now))) (images-kept moved) sure.agrees);
+              } in
               ap (λ (i : Images). verity_block c i p.verity.now (index + j)) (images-kept moved) ∙ got.exact before;
         } in
         let is : content ≡ take (512 * block_sectors p.verity.now) (drop (512 * ((p.first + j * block_sectors p.verity.now) % block_sectors p.verity.now)) content) =
         sym (ap (λ (r : ℕ). take (512 * block_sectors p.verity.now) (drop (512 * r) content)) (at-begin j) ∙ take_all (512 * block_sectors p.verity.now) content (omega (arith, len))) in
         run_ok (blocks_place c p n) c mono 0 (j * block_sectors p.verity.now) (block_sectors p.verity.now) so_far
         (pass (passes j (n * read_cost c (mapped p.device.0))) (record { old = mid; new = new; before = w; after = w ++ (one ∷ []) }) (Ok content) (record {
-          got = chain_fills (block_in c p.verity.now (index + j)) (p.device.0, p.line) (p.first + j * block_sectors p.verity.now) (block_sectors p.verity.now) (n * read_cost c (mapped p.device.0)) (sym (at-index j)) within b.size.whole (w ++ (one ∷ [])) one
-              (AreRead-more step-cost moved) got.exact got.may.1 refl (Contains-push w one) is;
+          got = chain_fills (block_in c p.verity.now (index + j)) (p.device.0, p.line) (p.first + j * block_sectors p.verity.now) (block_sectors p.verity.now) (n * read_cost c (mapped p.device.0)) (part_agrees c p) (block-agrees j inside) (sym (at-index j)) within b.size.whole (w ++ (one ∷ [])) one b.size.some
+              (AreRead-more step-cost moved) (λ steady agrees. got.exact (record { steady = steady; agrees = λ meets. block-agrees j inside (steady_images mid) agrees })) got.may.1 refl (Contains-push w one) is;
           grown = Grown-push _ 0 (block_sectors p.verity.now) w one b.size.some
               (0, omega arith, (let e : p.first + j * block_sectors p.verity.now + 0 ≡ p.first + j * block_sectors p.verity.now = omega arith in ap (λ (s : ℕ). (p.device.0, p.line, s / block_sectors p.verity.now)) e ∙ ap (λ (i : ℕ). (p.device.0, p.line, i)) (at-index j)));
           kept = AllKept-push c new w one (kept-later c w moved so_far.kept) (record { line = b.line.line; is = b.line.is; keeps = subst (λ (t : Target). LineKeeps c new t chain) (sym b.line.has) whole });
         }))
 
     -- to a fault of the next one
-    stops : (fault : IoFault) → Gets (run_expected (block_place (block_in c p.verity.now (index + j)) (p.device.0, p.line) (p.first + j * block_sectors p.verity.now) (n * read_cost c (mapped p.device.0))) w 0 (block_sectors p.verity.now)) mid new (Err fault)
+    stops : (fault : IoFault) → Gets (run_expected (block_place (block_in c p.verity.now (index + j)) (p.device.0, p.line) (p.first + j * block_sectors p.verity.now) (n * read_cost c (mapped p.device.0)) (part_agrees c p)) w 0 (block_sectors p.verity.now)) mid new (Err fault)
         → Finds (blocks_place c p n) c 0 n (record { old = old; new = new; before = u; after = w }) (Err fault)
     stops fault got =
         run_err (blocks_place c p n) c mono 0 (j * block_sectors p.verity.now) (block_sectors p.verity.now) so_far n fault (fits j inside)
         (pass (passes j (n * read_cost c (mapped p.device.0))) (record { old = mid; new = new; before = w; after = w }) (Err fault) (record { got = got; grown = Grown-none _ 0 (block_sectors p.verity.now) w; kept = kept-later c w moved so_far.kept }))
 
     block-stops : (fault : IoFault) {now : List Device} → GetsChain (block_in c p.verity.now (index + j)) mid now (Err fault)
-        → Gets (run_expected (block_place (block_in c p.verity.now (index + j)) (p.device.0, p.line) (p.first + j * block_sectors p.verity.now) (n * read_cost c (mapped p.device.0))) w 0 (block_sectors p.verity.now)) mid now (Err fault)
+        → Gets (run_expected (block_place (block_in c p.verity.now (index + j)) (p.device.0, p.line) (p.first + j * block_sectors p.verity.now) (n * read_cost c (mapped p.device.0)) (part_agrees c p)) w 0 (block_sectors p.verity.now)) mid now (Err fault)
     block-stops fault got =
         let one : 1 * read_cost c (mapped p.device.0) ≤ n * read_cost c (mapped p.device.0) = mul-le-mul_right (read_cost c (mapped p.device.0)) (omega (arith, fits j inside, b.size.some)) in
-        block_fails (block_in c p.verity.now (index + j)) (p.device.0, p.line) (p.first + j * block_sectors p.verity.now) (block_sectors p.verity.now) (n * read_cost c (mapped p.device.0)) (sym (at-index j)) within b.size.whole w fault b.size.some (omega (arith, chain-cost (index + j), one)) got
+        block_fails (block_in c p.verity.now (index + j)) (p.device.0, p.line) (p.first + j * block_sectors p.verity.now) (block_sectors p.verity.now) (n * read_cost c (mapped p.device.0)) (part_agrees c p) (block-agrees j inside) (sym (at-index j)) within b.size.whole w fault b.size.some (omega (arith, chain-cost (index + j), one)) got
 
     pub blocks-stop : (fault : IoFault) → GetsChain (block_in c p.verity.now (index + j)) mid new (Err fault) → Finds (blocks_place c p n) c 0 n (record { old = old; new = new; before = u; after = w }) (Err fault)
     blocks-stop fault got = stops fault (block-stops fault got)
@@ -278,27 +200,27 @@ module _ {c : Configuration} {p : VerityPart} {n : ℕ} {found : List FoundRecor
 
     -- of its digest, and its spare's
     pub heal-stops : {now at : List Device} {q : ℕ} (expected : List ℕ) (vain : IoFault) → ((fault : Fault) → vain ≡ io.Stack fault → GetsChain (block_in c p.verity.now (index + j)) mid now (Err (io.Stack mismatch))) → AreRead mid q at
-        → Gets (spare_expected (λ (x : List ℕ). x) (block_in c p.verity.now (index + j)) expected) at new (Err vain) → Finds (blocks_place c p n) c 0 n (record { old = old; new = new; before = u; after = w }) (Err (unhealed mismatch vain))
+        → Gets (spare_expected (λ (x : List ℕ). x) (block_in c p.verity.now (index + j)) expected) at new (Err vain) → Finds (blocks_place c p n) c 0 n (record { old = old; new = new; before = u; after = w }) (Err (unhealed (io.Stack mismatch) vain))
     heal-stops expected (io.Stack fault) other walked got = blocks-differ (other fault refl)
-    heal-stops expected (io.Device i) other walked got = stops (io.Device i) (record { moved = AreRead-more step-cost moved; may = (got.may.0, failed_later walked.moved got.moved.moved got.may.1); exact = λ steady. tt })
-    heal-stops expected io.NoMemory other walked got = stops io.NoMemory (record { moved = AreRead-more step-cost moved; may = got.may; exact = λ steady. tt })
+    heal-stops expected (io.Device i) other walked got = stops (io.Device i) (record { moved = AreRead-more step-cost moved; may = (got.may.0, failed_later walked.moved got.moved.moved got.may.1); exact = λ sure. tt })
+    heal-stops expected io.NoMemory other walked got = stops io.NoMemory (record { moved = AreRead-more step-cost moved; may = got.may; exact = λ sure. tt })
 
     -- of the data, beneath which no fault of a line is met
     pub row-stops : {at : List Device} {q first rows : ℕ} (chains : List FoundRecord) (fault : IoFault) → AreRead mid q at
         → Gets (run_expected (place_of c p.data) chains first rows) at new (Err fault) → Finds (blocks_place c p n) c 0 n (record { old = old; new = new; before = u; after = w }) (Err fault)
     row-stops {first = first} chains (io.Stack fault) walked got = absurd (b.clear (first + got.may.0) fault got.may.2)
-    row-stops chains (io.Device i) walked got = stops (io.Device i) (record { moved = AreRead-more step-cost moved; may = (got.may.0, failed_later walked.moved got.moved.moved got.may.1); exact = λ steady. tt })
-    row-stops chains io.NoMemory walked got = stops io.NoMemory (record { moved = AreRead-more step-cost moved; may = got.may; exact = λ steady. tt })
+    row-stops chains (io.Device i) walked got = stops (io.Device i) (record { moved = AreRead-more step-cost moved; may = (got.may.0, failed_later walked.moved got.moved.moved got.may.1); exact = λ sure. tt })
+    row-stops chains io.NoMemory walked got = stops io.NoMemory (record { moved = AreRead-more step-cost moved; may = got.may; exact = λ sure. tt })
 
     -- or where memory is short
     pub blocks-full : IsOutOfMemory largest_allocation → Finds (blocks_place c p n) c 0 n (record { old = old; new = new; before = u; after = w }) (Err io.NoMemory)
-    blocks-full refused = stops io.NoMemory (record { moved = AreRead-more step-cost moved; may = refused; exact = λ steady. tt })
+    blocks-full refused = stops io.NoMemory (record { moved = AreRead-more step-cost moved; may = refused; exact = λ sure. tt })
 
   -- ---- the whole read
 
   pub blocks-read : (did : LeafRead) (answer : Result (List ℕ) IoFault) (r j s : ℕ) → r ≤ m → j ≤ m → s ≤ m → AreRead did.old (read_cost_so_far c p.verity.now (r * block_sectors p.verity.now) j s) did.new → Finds (blocks_place c p n) c 0 n did answer → ReadsSource c (Blocks p) n did answer
   blocks-read did answer r j s read most healed moved found = record {
-    got = record { moved = AreRead-more (total-cost r j s read most healed) moved; may = found.got.may; exact = found.got.exact };
+    got = record { moved = AreRead-more (total-cost r j s read most healed) moved; may = found.got.may; exact = λ sure. found.got.exact (record { steady = sure.steady; agrees = sure.agrees }) };
     grown = found.grown;
     kept = found.kept;
   }

@@ -11,12 +11,14 @@ use Rattle.stack_meaning.specs.declared.fault.IoFault.TheVariants as io
 use Rattle.stack_meaning.specs.Found.{FoundRecord}
 use Rattle.stack_meaning.specs.Kept.{LineKeeps, IsKept}
 use Rattle.stack_meaning.specs.May.{MayFault}
-use Rattle.stack_meaning.specs.Reading.{Ends, Reads}
+use Rattle.stack_meaning.specs.Meaning.{said_at}
+use Rattle.stack_meaning.specs.Reading.{Ends, MeetVerity, Reads}
 use Rattle.stack_engine.specs.declared.path.Chains.TheVariants.{Dropped}
 use Rattle.stack_lines.specs.Touches.{AsksOnly, leaves_of}
 use Rattle.stack_lines.proofs.lemmas.AskLemmas.{asks-touched}
 use Rattle.stack_engine.specs.Bytes.{IsGoodChain, MayBeBytes, AnyBytes, EachBytes}
 use Rattle.stack_engine.specs.Keeping.{ReadsAs}
+use Rattle.stack_engine.specs.Healing.{HasNoParity}
 use Rattle.stack_engine.specs.Pieces.{stack_with}
 use Rattle.verified_cache.specs.Cache.{CacheRecord}
 
@@ -40,9 +42,9 @@ may-bytes c lower first n (Err (io.Device i)) p = p.got.may
 may-bytes c lower first n (Err io.NoMemory) p = p.got.may
 
 pub each-bytes : (c : Configuration) (d first n : ℕ) {old new : List Device} (answer : Result (List ℕ) IoFault) {found out : List FoundRecord} → found ≡ []
-    → ReadsAs Dropped c (mapped d) first n (record { old = old; new = new; before = found; after = out }) answer → AsksOnly (leaves_of c (mapped d)) old new answer
+    → ReadsAs Dropped c (mapped d) first n (record { old = old; new = new; before = found; after = out }) answer → AsksOnly (MeetVerity (said_at c (mapped d)) first n → HasNoParity c) (leaves_of c (mapped d)) old new answer
     → {before after : CacheRecord} {was is : ℕ} → after.capacity ≡ before.capacity → EachBytes (stack_with c old before was) d first n answer (stack_with c new after is)
 each-bytes c d first n {old = old} {new = new} answer {out = out} none p asks {before = before} {after = after} {was = was} {is = is} capacity =
     let q = subst (λ (u : List FoundRecord). ReadsAs Dropped c (mapped d) first n (record { old = old; new = new; before = u; after = out }) answer) none p in
     let any : AnyBytes (stack_with c _ before was) d first n answer (stack_with c _ after is) = record { config = refl; capacity = capacity; moved = q.reads.got.moved; may = may-bytes c (mapped d) first n answer q.reads; touches = asks-touched asks; fails = asks.ends } in
-    record { any = any; steady = λ steady. record { any = any; exact = q.reads.got.exact steady } }
+    record { any = any; steady = λ sure. record { any = any; exact = q.reads.got.exact (record { steady = sure.steady; agrees = sure.agrees }) } }

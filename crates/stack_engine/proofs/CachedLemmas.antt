@@ -2,7 +2,7 @@
 use Rattle.std.proofs.lemmas.List.Elements.{All-nil}
 use Rattle.stack_engine.specs.KeptBlocks.{AreChecked}
 use Rattle.stack_engine.specs.Pieces.{stack_with}
-use Rattle.std.proofs.Common.{◌≡◌, ℕ, ◌*◌, ◌<◌, ◌≤◌, IsTrue, Bool, ◌||◌, not, true, false, cond, List, length, get_or, All, Option, Some, None, Result, Ok, Err, refl, sym, ap, ◌∙◌, subst, arith}
+use Rattle.std.proofs.Common.{◌≡◌, ℕ, ◌*◌, ◌<◌, ◌≤◌, IsTrue, Bool, ◌||◌, not, true, false, cond, inl, List, length, get_or, All, Option, Some, None, Result, Ok, Err, refl, sym, ap, ◌∙◌, subst, arith}
 use Rattle.std.specs.Prelude.{option_map, OnOk, OnErr}
 use Rattle.std.specs.Option.{option_map_or}
 use Rattle.std.specs.declared.alloc.AllocError.{AllocError}
@@ -27,7 +27,9 @@ use Rattle.stack_meaning.specs.Leaves.{steady_images, AreSteady, AreRead}
 use Rattle.stack_meaning.specs.Memory.{largest_allocation}
 use Rattle.stack_meaning.specs.Meaning.{said_at, said_by_name}
 use Rattle.stack_meaning.specs.Places.{Place, place_of}
-use Rattle.stack_meaning.specs.Reading.{Gets}
+use Rattle.stack_meaning.specs.Agreement.{AgreesOn}
+use Rattle.stack_meaning.proofs.lemmas.AgreementLemmas.{agrees-within}
+use Rattle.stack_meaning.specs.Reading.{Gets, IsCertain}
 use Rattle.stack_lines.specs.Walks.{HasVerity, IsBlockOfDigest, checked_expected}
 use Rattle.stack_meaning.proofs.lemmas.LeafListLemmas.{AreRead-none, AreSteady-kept, AreSteady-within, images-kept}
 use Rattle.stack_meaning.proofs.lemmas.CheckedLemmas.{checked-same}
@@ -64,9 +66,10 @@ module _ (c : Configuration) where
         verity = one.verity;
         line = one.line;
         block = one.block;
-        exact = λ steady.
+        exact = λ steady agrees.
             let before : AreSteady (λ j. name_stands_on c j one.verity.hash) old = AreSteady-kept new old (sym a.moved.fixed) steady in
-            ap (λ (m : Images). span (λ s. (said_by_name c one.verity.hash s).means m) (hash_place one.verity key.level key.block) (hash_sectors one.verity)) (images-kept a) ∙ one.exact before;
+            ap (λ (m : Images). span (λ s. (said_by_name c one.verity.hash s).means m) (hash_place one.verity key.level key.block) (hash_sectors one.verity)) (images-kept a)
+            ∙ one.exact before (subst (AgreesOn c (λ j. name_stands_on c j one.verity.hash)) (images-kept a) agrees);
       }
 
   -- reads change no image of a steady leaf
@@ -93,12 +96,14 @@ module _ (c : Configuration) where
         record {
           moved = AreRead-none _ leaves;
           may = (ap (λ (l : List ℕ). length l) is ∙ block.0 ∙ ap (λ (k : ℕ). 512 * k) (sym at.sectors), ap (digest salt) is ∙ good);
-          exact = λ steady.
-              let on_hash : AreSteady (λ j. name_stands_on c j one.verity.hash) leaves =
-              AreSteady-within leaves (λ i is. subst IsTrue (ap (λ (v : Verity). name_stands_on c i v.hash) same ∙ name-stands c i at.verity.hash extent.lower at.hash) is) steady in
+          exact = λ sure.
+              let beneath : (i : ℕ) → IsTrue (name_stands_on c i one.verity.hash) → IsTrue ((place_of c extent.lower).leaves i) =
+              λ i is. subst IsTrue (ap (λ (v : Verity). name_stands_on c i v.hash) same ∙ name-stands c i at.verity.hash extent.lower at.hash) is in
+              let on_hash : AreSteady (λ j. name_stands_on c j one.verity.hash) leaves = AreSteady-within leaves beneath sure.steady in
+              let agreed : AgreesOn c (λ j. name_stands_on c j one.verity.hash) (steady_images leaves) = agrees-within c (steady_images leaves) beneath (sure.agrees (inl refl)) in
               let there : span (λ s. (said_by_name c at.verity.hash s).means (steady_images leaves)) (hash_place at.verity key.level key.block) (hash_sectors at.verity) ≡ Ok b.bytes =
               subst (λ (v : Verity). span (λ s. (said_by_name c v.hash s).means (steady_images leaves)) (hash_place v key.level key.block) (hash_sectors v) ≡ Ok b.bytes) same
-              (subst (λ (k : Key). span (λ s. (said_by_name c one.verity.hash s).means (steady_images leaves)) (hash_place one.verity k.level k.block) (hash_sectors one.verity) ≡ Ok b.bytes) same_key (one.exact on_hash)) in
+              (subst (λ (k : Key). span (λ s. (said_by_name c one.verity.hash s).means (steady_images leaves)) (hash_place one.verity k.level k.block) (hash_sectors one.verity) ≡ Ok b.bytes) same_key (one.exact on_hash agreed)) in
               ap (λ (s : Outcome). then_outcome s (checked salt expected)) (sym (spans (steady_images leaves)) ∙ there) ∙ checked-same salt expected b.bytes good ∙ ap Ok (sym is);
         }
 
@@ -123,9 +128,12 @@ module _ (c : Configuration) where
       verity = at.verity;
       line = at.line;
       block = (got.may.0 ∙ ap (λ (k : ℕ). 512 * k) at.sectors, ap (λ (s : List ℕ). digest s (bytes_of x)) at.salt_is ∙ got.may.1);
-      exact = λ steady.
-          let before : AreSteady (place_of c extent.lower).leaves old =
-          AreSteady-kept new old (sym got.moved.moved.fixed) (AreSteady-within new (λ i is. subst IsTrue (sym (name-stands c i at.verity.hash extent.lower at.hash)) is) steady) in
+      exact = λ steady agrees.
+          let beneath : (i : ℕ) → IsTrue ((place_of c extent.lower).leaves i) → IsTrue (name_stands_on c i at.verity.hash) = λ i is. subst IsTrue (sym (name-stands c i at.verity.hash extent.lower at.hash)) is in
+          let before : IsCertain (checked_expected bytes_of (place_of c extent.lower) extent.first extent.sectors salt expected) old = record {
+            steady = AreSteady-kept new old (sym got.moved.moved.fixed) (AreSteady-within new beneath steady);
+            agrees = λ meets. agrees-within c (steady_images old) beneath (subst (AgreesOn c (λ j. name_stands_on c j at.verity.hash)) (images-kept got.moved) agrees);
+          } in
           spans (steady_images new)
           ∙ ap (λ (m : Images). span (λ s. ((place_of c extent.lower).said s).means m) extent.first extent.sectors) (images-kept got.moved)
           ∙ passed salt expected (span (λ s. ((place_of c extent.lower).said s).means (steady_images old)) extent.first extent.sectors) (bytes_of x) (got.exact before);

@@ -69,7 +69,7 @@ reads-only (way_stops last next a) = reads-only a
 reads-only (way_full p l expected last next) = tt
 reads-only (one_ignored p expected last is) = tt
 reads-only (one_read last used settled a) = reads-only a
-reads-only (one_healed last {calls = calls} {later = later} used a b) = are-append is_read calls later (reads-only a) (reads-only b)
+reads-only (one_healed last {calls = calls} {later = later} used heals a b) = are-append is_read calls later (reads-only a) (reads-only b)
 reads-only (next_ignored last is a) = reads-only a
 reads-only (next_checked block last used is a) = reads-only a
 reads-only (next_healed block last {calls = calls} {later = later} used len other a b) = are-append is_read calls later (reads-only a) (reads-only b)

@@ -1,11 +1,13 @@
 -- A data block that is healed, and blocks of another digest.
-use Rattle.std.proofs.Common.{◌≡◌, Bool, true, false, cond, List, ℕ, length, Vec, Global, Ok, Err, refl, sym, ap, ◌∙◌, subst}
+use Rattle.std.proofs.Common.{◌≡◌, Bool, true, false, cond, List, ℕ, length, Vec, Global, Option, None, Result, Ok, Err, refl, sym, ap, ◌∙◌, subst}
 use Rattle.std.proofs.lemmas.Slice.Eq.{bytes_eq-Decides}
+use Rattle.std.specs.Prelude.{IsTrue, is_some}
 use Rattle.std.specs.Str.{bytes_eq}
 use Rattle.allocation.specs.Refusal.{IsOutOfMemory}
 use Rattle.tree_shape.specs.Digests.{digest}
 use Rattle.block_device.specs.Call.{Call}
 use Rattle.block_device.specs.Device.{Device}
+use Rattle.dm_table.specs.declared.parity.Parity.{Parity}
 use Rattle.stack_rules.specs.Records.{Configuration}
 use Rattle.stack_meaning.specs.declared.fault.Fault.{Fault}
 use Rattle.stack_meaning.specs.declared.fault.IoFault.{IoFault}
@@ -13,15 +15,15 @@ use Rattle.stack_meaning.specs.declared.fault.IoFault.TheVariants as io
 use Rattle.stack_meaning.specs.Blocks.{checked}
 use Rattle.stack_meaning.specs.Memory.{largest_allocation}
 use Rattle.stack_meaning.specs.Outcomes.{mismatch}
-use Rattle.stack_meaning.specs.Reading.{Gets}
+use Rattle.stack_meaning.specs.Reading.{Gets, IsCertain}
 use Rattle.stack_meaning.proofs.lemmas.LeafListLemmas.{AreRead-none}
-use Rattle.stack_lines.proofs.lemmas.AskLemmas.{asks-as}
-use Rattle.stack_lines.specs.Touches.{AsksOnly}
+use Rattle.stack_lines.proofs.lemmas.AskLemmas.{asks-as, asks-then}
+use Rattle.stack_lines.specs.Touches.{AsksOnly, NamesOneOf}
 use Rattle.stack_lines.specs.Walks.{DataBlock, block_in, spare_expected}
 use Rattle.stack_engine.specs.declared.backing.Backing.{Backing}
 use Rattle.stack_engine.specs.declared.spare.LostBlock.{LostBlock}
 use Rattle.stack_engine.specs.Backings.{leaves_in, served}
-use Rattle.stack_engine.specs.Healing.{healed_result, unhealed}
+use Rattle.stack_engine.specs.Healing.{HasNoParity, IsHealed, healed_result, unhealed}
 use Rattle.stack_engine.specs.ReadSteps.{ReadsOn}
 use Rattle.stack_engine.specs.Restored.{Served, after_spare}
 use Rattle.stack_engine.specs.SectorCalls.{DataPlace, ReadsBy, spare_full, spare_of}
@@ -36,13 +38,37 @@ checked-other salt expected block other = go (bytes_eq (digest salt block) expec
     go false e = refl
 
 -- the leaves that were accessed, for the fault that is answered
-pub asks-unhealed : {A B : Type 0} {these : ℕ → Bool} {old new : List Device} (own : Fault) (vain : IoFault) → AsksOnly {A = A} these old new (Err vain) → AsksOnly {A = B} these old new (Err (unhealed own vain))
+pub asks-unhealed : {A B Unhealed : Type 0} {these : ℕ → Bool} {old new : List Device} (own : Fault) (vain : IoFault) → AsksOnly {A = A} Unhealed these old new (Err vain) → AsksOnly {A = B} Unhealed these old new (Err (unhealed (io.Stack own) vain))
 asks-unhealed own (io.Stack fault) p = asks-as (Err (io.Stack own)) tt (λ failures. refl) p
 asks-unhealed own (io.Device i) p = asks-as (Err (io.Device i)) p.fault (λ failures. refl) p
 asks-unhealed own io.NoMemory p = asks-as (Err io.NoMemory) tt (λ failures. refl) p
 
+-- without parity no device's fault is healed
+unprotected : {X : Type 0} (parity : Option Parity) → parity ≡ None → IsTrue (is_some parity) → X
+unprotected parity lacks heals = let clash : false ≡ true = sym (ap is_some lacks) ∙ heals in absurd cc
+
+-- those of a block whose spare was vain, which may be a device's only with parity
+pub asks-vain : {A B : Type 0} {c : Configuration} {these : ℕ → Bool} {old new : List Device} (parity : Option Parity) (own vain : IoFault) → IsHealed parity own → (HasNoParity c → parity ≡ None) → NamesOneOf these own
+    → AsksOnly {A = A} (HasNoParity c) these old new (Err vain) → AsksOnly {A = B} (HasNoParity c) these old new (Err (unhealed own vain))
+asks-vain parity (io.Stack own) vain heals lacks named p = asks-unhealed own vain p
+asks-vain parity (io.Device i) (io.Stack vain) heals lacks named p = record { leaf = p.leaf; fault = named; ends = λ none. unprotected parity (lacks none) heals }
+asks-vain parity (io.Device i) (io.Device j) heals lacks named p = record { leaf = p.leaf; fault = named; ends = λ none. unprotected parity (lacks none) heals }
+asks-vain parity (io.Device i) io.NoMemory heals lacks named p = record { leaf = p.leaf; fault = tt; ends = λ none. unprotected parity (lacks none) heals }
+asks-vain parity io.NoMemory vain heals lacks named p = let clash : false ≡ true = heals in absurd cc
+
+-- the block's own read, and that of its spare
+pub asks-healed : {A B : Type 0} {c : Configuration} {these : ℕ → Bool} {old mid new : List Device} (parity : Option Parity) (own : IoFault) {result : Result B IoFault} → IsHealed parity own → (HasNoParity c → parity ≡ None)
+    → AsksOnly {A = A} (HasNoParity c) these old mid (Err own) → AsksOnly (HasNoParity c) these mid new result → AsksOnly (HasNoParity c) these old new result
+asks-healed parity (io.Stack own) heals lacks p q = asks-then {x = tt} (asks-as {B = Unit {0}} (Ok tt) tt (λ failures. refl) p) q
+asks-healed parity (io.Device i) heals lacks p q = record { leaf = λ i d out. q.leaf i d out ∙ p.leaf i d out; fault = q.fault; ends = λ none. unprotected parity (lacks none) heals }
+asks-healed parity io.NoMemory heals lacks p q = let clash : false ≡ true = heals in absurd cc
+
 abbrev bytes : Vec ℕ Global → List ℕ
 bytes = λ block. block.items
+
+-- it is as certain in another form
+spare-sure : {b : DataBlock} {expected : List ℕ} {old : List Device} → IsCertain (spare_expected bytes b expected) old → IsCertain (spare_expected (λ (x : List ℕ). x) b expected) old
+spare-sure sure = record { steady = sure.steady; agrees = sure.agrees }
 
 module _ (b : DataBlock) (expected : List ℕ) {old new : List Device} where
   -- the spare that a buffer holds
@@ -50,15 +76,15 @@ module _ (b : DataBlock) (expected : List ℕ) {old new : List Device} where
   spare-had block is p = record {
     moved = p.moved;
     may = (ap (λ (l : List ℕ). length l) is ∙ p.may.0, ap (digest b.verity.salt) is ∙ p.may.1);
-    exact = λ steady. p.exact steady ∙ ap Ok (sym is);
+    exact = λ sure. p.exact (spare-sure sure) ∙ ap Ok (sym is);
   }
 
   spare-failed : (fault : IoFault) → Gets (spare_expected (λ (x : List ℕ). x) b expected) old new (Err fault) → Gets (spare_expected bytes b expected) old new (Err fault)
-  spare-failed (io.Stack fault) p = record { moved = p.moved; may = p.may; exact = p.exact }
-  spare-failed (io.Device i) p = record { moved = p.moved; may = p.may; exact = p.exact }
-  spare-failed io.NoMemory p = record { moved = p.moved; may = p.may; exact = p.exact }
+  spare-failed (io.Stack fault) p = record { moved = p.moved; may = p.may; exact = λ sure. p.exact (spare-sure sure) }
+  spare-failed (io.Device i) p = record { moved = p.moved; may = p.may; exact = λ sure. p.exact (spare-sure sure) }
+  spare-failed io.NoMemory p = record { moved = p.moved; may = p.may; exact = λ sure. p.exact (spare-sure sure) }
 
-module _ {D : Type 0} (state : D → Device) {does : D → Call → D → Type 0} (c : Configuration) (p : DataPlace) (lost : LostBlock) (fault : Fault) {old new : Backing D} where
+module _ {D : Type 0} (state : D → Device) {does : D → Call → D → Type 0} (c : Configuration) (p : DataPlace) (lost : LostBlock) (fault : IoFault) {old new : Backing D} where
   pub heals-had : (block : Vec ℕ Global) {out : List ℕ} → block.items ≡ out → Gets (spare_expected (λ (x : List ℕ). x) (block_in c p.verity lost.index) lost.digest) (leaves_in state old) (leaves_in state new) (Ok out) → {read : Served D} → served new ≡ after_spare {A = List ℕ} (Ok out) read → ReadsBy does c (spare_of p lost.digest) (served old) read (Ok out)
       → HealsBy state does c p lost fault old new (Ok block)
   heals-had block is got {read = read} counted given = record {
@@ -79,7 +105,7 @@ module _ {D : Type 0} (state : D → Device) {does : D → Call → D → Type 0
   heals-short same refused = subst (λ (x : Backing D). HealsBy state does c p lost fault old x (Err io.NoMemory)) (sym same) (record {
     spare = Err io.NoMemory;
     is = refl;
-    got = record { moved = AreRead-none _ (leaves_in state old); may = refused; exact = λ steady. tt };
+    got = record { moved = AreRead-none _ (leaves_in state old); may = refused; exact = λ sure. tt };
     read = served old;
     counted = refl;
     given = reads-none (spare_full p lost.digest);

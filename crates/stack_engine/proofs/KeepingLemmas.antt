@@ -70,7 +70,7 @@ pub finds-begin : (chains : Chains) {place : Place} {c : Configuration} {first :
     → FindsAs chains place c first 0 (record { old = leaves; new = leaves; before = found; after = found }) (Ok [])
 finds-begin chains {place = place} {c = c} {first = first} {leaves = leaves} {found = found} kept =
     let none : Finds place c first 0 (record { old = leaves; new = leaves; before = found; after = found }) (Ok []) = record {
-      got = record { moved = AreRead-none _ leaves; may = record { len = refl; sectors = λ j h. absurd (omega (arith, h)) }; exact = λ steady. refl };
+      got = record { moved = AreRead-none _ leaves; may = record { len = refl; sectors = λ j h. absurd (omega (arith, h)) }; exact = λ sure. refl };
       grown = Grown-none _ first 0 found;
       kept = kept;
     } in
@@ -96,7 +96,7 @@ behind {place = place} {c = c} {first = first} {n = n} {mid = mid} {new = new} {
 
     go : (answer : Result (List ℕ) IoFault) → Gets (run_expected place q.after first n) mid new answer → Gets (run_expected place (u ++ q.reads.grown.added) first n) mid new answer
     go (Ok bytes) got = fill_more place first n mono all got
-    go (Err fault) got = fault_passes fault got (AreRead-none 0 mid) (omega arith) (λ x h. h) (λ i h. h) (λ steady x is. is)
+    go (Err fault) got = fault_passes fault got (AreRead-none 0 mid) (omega arith) (λ x h. h) (λ i h. h) (λ images h. h) (λ sure x is. is)
 
 module _ (place : Place) (c : Configuration) (mono : AllMono place) (first a m : ℕ) {old mid new : List Device} {u v w : List FoundRecord} {x : List ℕ} where
   -- the chains so far, and those of the next read
@@ -134,5 +134,5 @@ same_reads {chains = chains} c lower first {m = m} {did = did} {x = x} e f p =
 
 -- no sectors were read, and no chains are wanted
 pub gets-none : (c : Configuration) (lower : Lower) (first : ℕ) (leaves : List Device) (out : List ℕ) → length out ≡ 0 → GetsBytes c lower first (length out / 512) leaves leaves (Ok out)
-gets-none c lower first leaves [] none = record { chains = []; got = record { moved = AreRead-none _ leaves; may = record { len = refl; sectors = λ j h. absurd (omega (arith, h)) }; exact = λ steady. refl } }
+gets-none c lower first leaves [] none = record { chains = []; got = record { moved = AreRead-none _ leaves; may = record { len = refl; sectors = λ j h. absurd (omega (arith, h)) }; exact = λ sure. refl } }
 gets-none c lower first leaves (x ∷ xs) none = absurd (omega (arith, none))

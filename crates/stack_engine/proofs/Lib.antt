@@ -5,6 +5,7 @@ pub mod StepLemmas
 pub mod WriteStepLemmas
 pub mod PathLemmas
 pub mod TouchedLemmas
+pub mod BlocksAtLemmas
 pub mod BlocksLemmas
 pub mod ReadBlockLemmas
 pub mod NextBlockLemmas

@@ -48,7 +48,8 @@ use Rattle.stack_engine.specs.declared.path.Chains.{Chains}
 use Rattle.stack_engine.specs.Bytes.{GetsBytes}
 use Rattle.stack_engine.specs.Keeping.{AreHandedOut, ReadsSourceAs}
 use Rattle.stack_engine.proofs.KeepingLemmas.{finds-as, none-out}
-use Rattle.stack_engine.proofs.BlocksLemmas.{blocks_place, path_cost, read_cost_so_far, BlocksAt, IsRead, total-cost, none-read, blocks-stop, row-stops, blocks-read}
+use Rattle.stack_engine.proofs.BlocksAtLemmas.{blocks_place, path_cost, read_cost_so_far, BlocksAt, IsRead}
+use Rattle.stack_engine.proofs.BlocksLemmas.{total-cost, none-read, blocks-stop, row-stops, blocks-read}
 use Rattle.stack_engine.proofs.SpentLemmas.{way-spent, row-spent}
 
 -- ---- digests of blocks that are one after another
@@ -101,8 +102,7 @@ abbrev pub AreReadAhead : Configuration → VerityPart → ℕ → ℕ → List 
 AreReadAhead c p j r bytes made old = (k : ℕ) → j ≤ k → k < r → (x : List ℕ)
     → IsRead c p old k (take (512 * block_sectors p.verity.now) (drop (512 * (k * block_sectors p.verity.now)) bytes)) (get_or made k x)
 
--- Block j is the next one: those before it were had, the way to it was walked, and data were read as far as block r, and so many
--- spares at most.
+-- Block j is next: those before it were had, the way to it was walked, and data were read as far as block r, with so many spares.
 pub record IsNext (c : Configuration) (p : VerityPart) (n r j spares : ℕ) (bytes expected : List ℕ) (path : List (List ℕ)) (did : LeafRead) : Type 0 where
   pub mid : List Device
   pub here : List Device
@@ -508,13 +508,13 @@ module _ {c : Configuration} {p : VerityPart} {found : List FoundRecord} {start 
               from = walk;
               ways = _;
               first = AreRead-then had.moved moved;
-              means = λ steady.
+              means = λ steady agrees.
                   let f : ℕ → Outcome = λ s. ((place_of c p.data).said s).means (steady_images walk) in
                   let sized : AreSized f = λ s. sector-size c (steady_images walk) b.loaded (images-whole walk whole) p.data s in
                   let all : t * u + (u + (many * u - (t * u + u))) ≡ many * u = omega (arith, room_in) in
                   let begins : block_sectors p.verity.now * (p.first / block_sectors p.verity.now + j) + t * u ≡ p.first + k * u = omega (arith, place b j, ap (λ (i : ℕ). i * u) at_k, add-mul j t u) in
                   ap (λ (i : ℕ). span f i u) (sym begins)
-                  ∙ span-part f sized (block_sectors p.verity.now * (p.first / block_sectors p.verity.now + j)) (t * u) u (many * u - (t * u + u)) content_of (ap (span f (block_sectors p.verity.now * (p.first / block_sectors p.verity.now + j))) all ∙ gets.got.exact steady);
+                  ∙ span-part f sized (block_sectors p.verity.now * (p.first / block_sectors p.verity.now + j)) (t * u) u (many * u - (t * u + u)) content_of (ap (span f (block_sectors p.verity.now * (p.first / block_sectors p.verity.now + j))) all ∙ gets.got.exact (record { steady = steady; agrees = λ meets. agrees }));
               made_is = made_k;
             } in
             subst (λ (l : List ℕ). IsRead c p did.old k l (get_or (put_mid j (j + many - j) made digests) k x)) (sym block) is_read

@@ -25,7 +25,8 @@ use Rattle.stack_lines.specs.Budgets.{ReadsAtMost, part_budget}
 use Rattle.stack_lines.specs.Sources.{ReadsSource}
 use Rattle.stack_lines.specs.Walks.{block_in, spare_cost, spare_expected, GetsChain}
 use Rattle.stack_meaning.proofs.lemmas.LeafListLemmas.{AreRead-more, AreRead-then}
-use Rattle.stack_engine.proofs.BlocksLemmas.{blocks_place, read_cost_so_far, BlocksAt, IsRead, heal-stops, total-cost, before-more, none-more, blocks-more, blocks-full, blocks-read}
+use Rattle.stack_engine.proofs.BlocksAtLemmas.{blocks_place, read_cost_so_far, BlocksAt, IsRead}
+use Rattle.stack_engine.proofs.BlocksLemmas.{heal-stops, total-cost, before-more, none-more, blocks-more, blocks-full, blocks-read}
 use Rattle.stack_engine.proofs.ReadBlockLemmas.{block-other}
 use Rattle.stack_engine.proofs.lemmas.BlockLemmas.{distinct-push}
 use Rattle.stack_engine.proofs.SpentLemmas.{had-spent}
@@ -84,9 +85,9 @@ module _ {c : Configuration} {p : VerityPart} {n : ℕ} {found : List FoundRecor
 
       -- it has another digest, as has its spare, or that can't be read
       pub block-fails : {ignored : Bool} (made : List (List ℕ)) (x : List ℕ) → ignored ≡ is_ignored p.verity.now expected → AreReadAhead c p j r out made did.old → (ignored ≡ false → j < r) → ignored ≡ false → (get_or made j x ≡ expected → ⊥)
-          → (vain : IoFault) → Gets (spare_expected (λ (x : List ℕ). x) (block_in c p.verity.now (p.first / block_sectors p.verity.now + j)) expected) did.new new (Err vain) → ReadsSource c (Blocks p) n after (Err (unhealed mismatch vain))
+          → (vain : IoFault) → Gets (spare_expected (λ (x : List ℕ). x) (block_in c p.verity.now (p.first / block_sectors p.verity.now + j)) expected) did.new new (Err vain) → ReadsSource c (Blocks p) n after (Err (unhealed (io.Stack mismatch) vain))
       block-fails made x same ahead within used other vain got =
-          blocks-read b after (Err (unhealed mismatch vain)) r (j + 1) (j + 1) read up-to up-to all-moved-on
+          blocks-read b after (Err (unhealed (io.Stack mismatch) vain)) r (j + 1) (j + 1) read up-to up-to all-moved-on
           (heal-stops b j inside next.so_far rest-on few expected vain
           (λ fault is. block-other b j next.later next.walked _ _ (sym same ∙ used) (was-read made x ahead (within used)) other next.moved fault
           (subst (λ (v : IoFault). Gets (spare_expected (λ (x : List ℕ). x) (block_in c p.verity.now (p.first / block_sectors p.verity.now + j)) expected) did.new new (Err v)) is got)) next.rest got)

@@ -84,7 +84,7 @@ no_block = record { key = record { device = 0; line = 0; level = 0; block = 0 };
 pub walk-begins : (b : DataBlock) {l : ℕ} {path : List (List ℕ)} {old : List Device} → levels (tree_of b.verity) ≡ l → [] ≡ path → IsWalked b l b.verity.root path old old
 walk-begins b {path = path} {old = old} all none =
     subst (λ (k : ℕ). IsWalked b k b.verity.root path old old) all
-    (subst (λ (p : List (List ℕ)). IsWalked b (levels (tree_of b.verity)) b.verity.root p old old) none (record { count = omega arith; moved = AreRead-none _ old; hangs = λ rest content len h. h; exact = λ steady. refl }))
+    (subst (λ (p : List (List ℕ)). IsWalked b (levels (tree_of b.verity)) b.verity.root p old old) none (record { count = omega arith; moved = AreRead-none _ old; hangs = λ rest content len h. h; exact = λ sure. refl }))
 
 -- a way that was walked, wherever it ends
 pub path-ended : (b : DataBlock) (l : ℕ) {expected : List ℕ} {path : List (List ℕ)} {old new : List Device} → IsWalked b l expected path old new → AreRead old (levels (tree_of b.verity) * (hash_sectors b.verity * b.on_hash.cost)) new

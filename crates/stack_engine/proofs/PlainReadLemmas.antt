@@ -1,52 +1,17 @@
 -- Reads over lines without parity restore nothing.
-use Rattle.std.proofs.Common.{◌≡◌, ℕ, ◌-◌, arith, List, Option, Some, None, Result, Ok, Err, inl, inr, refl, sym, ◌∙◌}
+use Rattle.std.proofs.Common.{◌≡◌, ℕ, List, Option, Some, None, Result, Ok, Err, inl, inr, refl, sym, ◌∙◌}
 use Rattle.dm_table.specs.declared.parity.Parity.{Parity}
 use Rattle.stack_rules.specs.Records.{Configuration}
 use Rattle.stack_meaning.specs.declared.fault.IoFault.{IoFault}
-use Rattle.stack_lines.specs.declared.source.Source.{Source}
-use Rattle.stack_lines.specs.declared.source.Source.TheVariants.{Below, Units, UnitPart, Zeros, Fails, Block, Blocks}
-use Rattle.stack_lines.specs.Sources.{ComeFrom, IsServed}
 use Rattle.block_device.specs.Call.{Call}
 use Rattle.block_device.specs.Device.{Device}
-use Rattle.dm_table.specs.declared.table.Line.{Line}
-use Rattle.stack_rules.specs.Lines.{IsLine}
 use Rattle.stack_engine.specs.LeafCalls.{LeafCall}
 use Rattle.stack_engine.specs.Pieces.{PieceGives}
 use Rattle.stack_engine.specs.Unrestored.{HasNoParity}
 use Rattle.stack_engine.specs.Restored.{restored_after}
-use Rattle.stack_engine.specs.SectorCalls.{DataPlace, block_of, blocks_of, data_of, hash_of, sectors_of, spare_of, sums_of, ReadOf, ReadCalls, leaf_read, leaf_unread, none_read, line_read, line_unread, units_read, units_unread, part_read, part_unread, zeros_read, fails_read, chain_found, data_read, data_unread, data_full, blocks_read, block_checked, block_differs, block_unread, block_full, hash_kept, hash_full, hash_lost, hash_read, way_down, way_stops, way_full, one_ignored, one_read, one_healed, next_ignored, next_checked, next_healed, next_differs, together_read, together_unread, blocks_end, blocks_next, blocks_full, spare_none, spare_full, spare_checked, spare_differs, spare_unread, sums_past, sums_added, sums_unread, parity_added, parity_unread}
+use Rattle.stack_engine.proofs.lemmas.NoParityLemmas.{HasNone, served-none}
+use Rattle.stack_engine.specs.SectorCalls.{DataPlace, spare_of, ReadOf, ReadCalls, leaf_read, leaf_unread, none_read, line_read, line_unread, units_read, units_unread, part_read, part_unread, zeros_read, fails_read, chain_found, data_read, data_unread, data_full, blocks_read, block_checked, block_differs, block_unread, block_full, hash_kept, hash_full, hash_lost, hash_read, way_down, way_stops, way_full, one_ignored, one_read, one_healed, next_ignored, next_checked, next_healed, next_differs, together_read, together_unread, blocks_end, blocks_next, blocks_full, spare_none, spare_full, spare_checked, spare_differs, spare_unread, sums_past, sums_added, sums_unread, parity_added, parity_unread}
 use Rattle.stack_engine.specs.Stacks.{StackRecord}
-
--- the line of a part has none
-abbrev SourceHasNone : Source → Type 0
-SourceHasNone (Below lower first) = Unit {0}
-SourceHasNone (Units u) = Unit {0}
-SourceHasNone (UnitPart u) = Unit {0}
-SourceHasNone Zeros = Unit {0}
-SourceHasNone Fails = Unit {0}
-SourceHasNone (Block x) = x.verity.now.parity ≡ None
-SourceHasNone (Blocks x) = x.verity.now.parity ≡ None
-
-abbrev HasNone : ReadOf → Type 0
-HasNone (sectors_of source n) = SourceHasNone source
-HasNone (block_of x) = Unit {0}
-HasNone (hash_of x) = Unit {0}
-HasNone (data_of p l expected last next) = p.verity.parity ≡ None
-HasNone (blocks_of p left ahead) = p.verity.parity ≡ None
-HasNone (spare_of p expected) = p.verity.parity ≡ None
-HasNone (sums_of p q i sums) = ⊥
-
-come-none : (c : Configuration) (d l : ℕ) (line : Line) (w n : ℕ) (source : Source) → HasNoParity c → IsLine c d l line → ComeFrom c (d, l) line.target w n source → SourceHasNone source
-come-none c d l line w n (Below lower first) none is come = tt
-come-none c d l line w n (Units u) none is come = tt
-come-none c d l line w n (UnitPart u) none is come = tt
-come-none c d l line w n Zeros none is come = tt
-come-none c d l line w n Fails none is come = tt
-come-none c d l line w n (Block x) none is come = none d l x.verity.now (record { line = line; is = is; has = come.0; fits = omega arith })
-come-none c d l line w n (Blocks x) none is come = none d l x.verity.now (record { line = line; is = is; has = come.0; fits = omega arith })
-
-served-none : {c : Configuration} {d s n : ℕ} {source : Source} → HasNoParity c → IsServed c d s n source → SourceHasNone source
-served-none {c = c} {d = d} {s = s} {n = n} {source = source} none h = come-none c d h.number h.line (s - h.line.start) n source none h.is h.come
 
 clash : {parity : Option Parity} {q : Parity} {X : Type 0} → parity ≡ None → parity ≡ Some q → X
 clash none has = let other : None ≡ Some _ = sym none ∙ has in absurd cc
@@ -97,7 +62,7 @@ reads-same none (way_stops last next a) plain = reads-same none a tt
 reads-same none (way_full p l expected last next) plain = refl
 reads-same none (one_ignored p expected last is) plain = refl
 reads-same none (one_read last used settled a) plain = reads-same none a tt
-reads-same none (one_healed last {spare = spare} used a b) plain = let vain = spare-vain plain b in vain-same spare _ vain.1 ∙ vain.0 ∙ reads-same none a tt
+reads-same none (one_healed last {spare = spare} used heals a b) plain = let vain = spare-vain plain b in vain-same spare _ vain.1 ∙ vain.0 ∙ reads-same none a tt
 reads-same none (next_ignored last is a) plain = reads-same none a plain
 reads-same none (next_checked block last used is a) plain = reads-same none a plain
 reads-same none (next_healed block last used len other a b) plain = absurd (spare-vain plain a).1

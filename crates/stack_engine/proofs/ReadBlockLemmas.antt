@@ -12,17 +12,19 @@ use Rattle.stack_meaning.specs.Outcomes.{Images, Outcome, mismatch, span, then_o
 use Rattle.stack_meaning.specs.Blocks.{checked, is_ignored}
 use Rattle.stack_meaning.specs.Found.{FoundRecord}
 use Rattle.stack_meaning.specs.Places.{place_of}
-use Rattle.stack_meaning.specs.Reading.{Gets}
+use Rattle.stack_meaning.specs.Agreement.{AgreesOn}
+use Rattle.stack_meaning.specs.Reading.{Gets, IsCertain}
 use Rattle.stack_meaning.specs.declared.fault.Fault.{Fault}
 use Rattle.stack_meaning.specs.Leaves.{steady_images, AreSteady, AreRead}
 use Rattle.stack_lines.specs.Touches.{leaves_of}
-use Rattle.stack_lines.specs.Walks.{block_in, checked_expected, spare_expected, GetsChain, IsWalked}
+use Rattle.stack_lines.specs.Walks.{AgreesAt, block_in, checked_expected, spare_expected, GetsChain, IsWalked}
 use Rattle.stack_meaning.proofs.lemmas.LeafListLemmas.{AreRead-none}
 use Rattle.stack_meaning.proofs.lemmas.CheckedLemmas.{checked-same}
 use Rattle.stack_engine.proofs.HealLemmas.{checked-other}
 use Rattle.stack_engine.proofs.lemmas.WalkLemmas.{data_zeros, data_read, data_healed, walk_ends, walk_fails}
 use Rattle.stack_engine.proofs.PathLemmas.{checked-at}
-use Rattle.stack_engine.proofs.BlocksLemmas.{BlocksAt, IsRead, same-images, start}
+use Rattle.stack_engine.proofs.BlocksAtLemmas.{BlocksAt, IsRead, same-images}
+use Rattle.stack_engine.proofs.BlocksLemmas.{start}
 
 module _ {c : Configuration} {p : VerityPart} {n : ℕ} {found : List FoundRecord} (b : BlocksAt c p n found) where
   abbrev index : ℕ
@@ -30,10 +32,10 @@ module _ {c : Configuration} {p : VerityPart} {n : ℕ} {found : List FoundRecor
 
   module _ (j : ℕ) {old mid now : List Device} {r : ℕ} (later : AreRead old r now) {expected : List ℕ} {path : List (List ℕ)} (walked : IsWalked (block_in c p.verity.now (index + j)) 0 expected path mid now)
       (block made : List ℕ) where
-    here : IsRead c p old j block made → AreSteady (leaves_of c p.data) now → span (λ s. ((place_of c p.data).said s).means (steady_images now)) (p.first + j * block_sectors p.verity.now) (block_sectors p.verity.now) ≡ Ok block
-    here was steady =
+    here : IsRead c p old j block made → AreSteady (leaves_of c p.data) now → AgreesOn c (leaves_of c p.data) (steady_images now) → span (λ s. ((place_of c p.data).said s).means (steady_images now)) (p.first + j * block_sectors p.verity.now) (block_sectors p.verity.now) ≡ Ok block
+    here was steady agrees =
         let same = same-images was.first later steady in
-        ap (λ (i : Images). span (λ s. ((place_of c p.data).said s).means i) (p.first + j * block_sectors p.verity.now) (block_sectors p.verity.now)) same.1 ∙ was.means same.0
+        ap (λ (i : Images). span (λ s. ((place_of c p.data).said s).means i) (p.first + j * block_sectors p.verity.now) (block_sectors p.verity.now)) same.1 ∙ was.means same.0 (subst (AgreesOn c (leaves_of c p.data)) same.1 agrees)
 
     at-place : (result : Result (List ℕ) IoFault) → Gets (checked_expected (λ (x : List ℕ). x) (place_of c p.data) (p.first + j * block_sectors p.verity.now) (block_sectors p.verity.now) p.verity.now.salt expected) now now result
         → Gets (checked_expected (λ (x : List ℕ). x) (block_in c p.verity.now (index + j)).on_data (block_sectors p.verity.now * (index + j)) (block_sectors p.verity.now) p.verity.now.salt expected) now now result
@@ -52,7 +54,7 @@ module _ {c : Configuration} {p : VerityPart} {n : ℕ} {found : List FoundRecor
         (at-place (Ok block) (record {
           moved = AreRead-none _ now;
           may = (len, good);
-          exact = λ steady. ap (λ (s : Outcome). then_outcome s (checked p.verity.now.salt expected)) (here was steady) ∙ checked-same p.verity.now.salt expected block good;
+          exact = λ sure. ap (λ (s : Outcome). then_outcome s (checked p.verity.now.salt expected)) (here was sure.steady (sure.agrees (inl refl))) ∙ checked-same p.verity.now.salt expected block good;
         })))
 
     -- it is ignored
@@ -69,16 +71,16 @@ module _ {c : Configuration} {p : VerityPart} {n : ℕ} {found : List FoundRecor
         at-place (Err (io.Stack mismatch)) (record {
           moved = AreRead-none _ now;
           may = inl refl;
-          exact = λ steady. ap (λ (s : Outcome). then_outcome s (checked p.verity.now.salt expected)) (here was steady) ∙ checked-other p.verity.now.salt expected block other;
+          exact = λ sure. ap (λ (s : Outcome). then_outcome s (checked p.verity.now.salt expected)) (here was sure.steady (sure.agrees (inl refl))) ∙ checked-other p.verity.now.salt expected block other;
         })
 
     -- what its spare means stays
-    spare-means : {at : List Device} {q : ℕ} → AreRead old q at → AreSteady (spare_expected (λ (x : List ℕ). x) (block_in c p.verity.now (index + j)) expected).leaves now
-        → AreSteady (spare_expected (λ (x : List ℕ). x) (block_in c p.verity.now (index + j)) expected).leaves at
+    spare-means : {at : List Device} {q : ℕ} → AreRead old q at → IsCertain (spare_expected (λ (x : List ℕ). x) (block_in c p.verity.now (index + j)) expected) now
+        → IsCertain (spare_expected (λ (x : List ℕ). x) (block_in c p.verity.now (index + j)) expected) at
         × ((spare_expected (λ (x : List ℕ). x) (block_in c p.verity.now (index + j)) expected).means (steady_images now) ≡ (spare_expected (λ (x : List ℕ). x) (block_in c p.verity.now (index + j)) expected).means (steady_images at))
-    spare-means rest steady =
-        let same = same-images rest later steady in
-        (same.0, ap (λ (i : Images). (spare_expected (λ (x : List ℕ). x) (block_in c p.verity.now (index + j)) expected).means i) same.1)
+    spare-means rest sure =
+        let same = same-images rest later sure.steady in
+        (record { steady = same.0; agrees = λ meets. subst (AgreesAt (block_in c p.verity.now (index + j))) same.1 (sure.agrees meets) }, ap (λ (i : Images). (spare_expected (λ (x : List ℕ). x) (block_in c p.verity.now (index + j)) expected).means i) same.1)
 
     -- its spare, which was read after it
     module _ (taken : is_ignored p.verity.now expected ≡ false) (was : IsRead c p old j block made) (different : made ≡ expected → ⊥) {at new : List Device} {q : ℕ} (rest : AreRead old q at) where
@@ -89,7 +91,7 @@ module _ {c : Configuration} {p : VerityPart} {n : ℕ} {found : List FoundRecor
           (data_healed (λ (x : List ℕ). x) (block_in c p.verity.now (index + j)) expected mismatch taken (own-differs was different) (Ok spare) (record {
             moved = AreRead-none _ now;
             may = got.may;
-            exact = λ steady. let at_last = spare-means rest steady in at_last.1 ∙ got.exact at_last.0;
+            exact = λ sure. let at_last = spare-means rest sure in at_last.1 ∙ got.exact at_last.0;
           }))
 
       -- or which a lower line refused, or which has another digest
@@ -99,5 +101,5 @@ module _ {c : Configuration} {p : VerityPart} {n : ℕ} {found : List FoundRecor
           (data_healed (λ (x : List ℕ). x) (block_in c p.verity.now (index + j)) expected mismatch taken (own-differs was different) (Err (io.Stack vain)) (record {
             moved = AreRead-none _ now;
             may = tt;
-            exact = λ steady. let at_last = spare-means rest steady in at_last.1 ∙ got.exact at_last.0;
+            exact = λ sure. let at_last = spare-means rest sure in at_last.1 ∙ got.exact at_last.0;
           }))

@@ -1,10 +1,11 @@
 -- The bytes of a run, and those before and after it.
 use Rattle.std.proofs.Common.{◌≡◌, ◌⊎◌, inl, inr, false, ◌<◌, ◌≤◌, ◌+◌, ◌/◌, ◌*◌, ◌-◌, ◌%◌, length, take, drop, ℕ, List, [], ◌++◌, sym, ap, ◌∙◌, subst, arith}
-use Rattle.std.proofs.lemmas.List.{length-take, length-drop, take-append-drop, nil_from_length}
+use Rattle.std.proofs.lemmas.List.{length-append, length-take, length-drop, take-append-drop, nil_from_length}
 use Rattle.std.proofs.Math.Seq.{take-add}
 use Rattle.stack_rules.specs.Records.{Configuration}
 use Rattle.stack_lines.specs.declared.source.Source.{Source}
 use Rattle.block_device.specs.Device.{Device}
+use Rattle.block_device.proofs.lemmas.SectorLemmas.{put_at}
 use Rattle.stack_meaning.specs.Found.{FoundRecord}
 use Rattle.stack_meaning.specs.Kept.{AllKept}
 use Rattle.stack_meaning.specs.Puts.{in_one_run}
@@ -121,3 +122,10 @@ module _ (bytes : List ℕ) (at count : ℕ) (fits : at + count * 512 ≤ length
         let e : first + at / 512 + count - 1 ≡ first + length (take at bytes) / 512 + length (take (at + count * 512 - at) (drop at bytes)) / 512 - 1 = omega (arith, front_sectors bytes at count fits, run_sectors bytes at count fits) in
         inr (ap (in_one_run c d) (sym e) ∙ cut)
   ]
+
+-- bytes put into others within their length
+pub length-put : (plain : List ℕ) (at : ℕ) (bytes : List ℕ) (size : ℕ) → length plain ≡ size → at + length bytes ≤ size → length (put_at plain at bytes) ≡ size
+length-put plain at bytes size long fits =
+    length-append (take at plain ++ bytes) (drop (at + length bytes) plain)
+    ∙ ap (λ (k : ℕ). k + length (drop (at + length bytes) plain)) (length-append (take at plain) bytes)
+    ∙ (omega (arith, long, fits, length-take at plain, length-drop (at + length bytes) plain))

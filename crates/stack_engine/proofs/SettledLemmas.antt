@@ -29,7 +29,7 @@ use Rattle.stack_engine.specs.Restored.{Served, after_spare}
 use Rattle.stack_engine.specs.SectorCalls.{DataPlace, Gives, ReadsBy, place_at, place_in, spare_of}
 use Rattle.stack_engine.specs.Spares.{IsAnswered, SettlesBy, spare_wanted}
 use Rattle.stack_engine.proofs.BlockCallLemmas.{BlocksUpTo, WayUpTo, block-mended, block-settled, block-unhealed}
-use Rattle.stack_engine.proofs.BlocksLemmas.{BlocksAt}
+use Rattle.stack_engine.proofs.BlocksAtLemmas.{BlocksAt}
 use Rattle.stack_engine.proofs.ReadBlockLemmas.{block-had, block-healed, block-zeros}
 use Rattle.stack_engine.proofs.NextBlockLemmas.{AreReadAhead, IsNext, sub-same}
 use Rattle.stack_engine.proofs.NextSettledLemmas.{block-fails, stood-len, was-read, width}
@@ -48,17 +48,17 @@ ok-same : {x y : List ℕ} {a : Result (List ℕ) IoFault} → a ≡ Ok x → a 
 ok-same p q = ap ok_bytes (sym p ∙ q)
 
 -- a spare that is answered was read
-healed-ok : (spare : Result (List ℕ) IoFault) (x : List ℕ) → Ok x ≡ healed_result mismatch spare → spare ≡ Ok x
+healed-ok : (spare : Result (List ℕ) IoFault) (x : List ℕ) → Ok x ≡ healed_result (io.Stack mismatch) spare → spare ≡ Ok x
 healed-ok (Ok y) x e = sym e
-healed-ok (Err vain) x e = let clash : Ok x ≡ Err (unhealed mismatch vain) = e in absurd cc
+healed-ok (Err vain) x e = let clash : Ok x ≡ Err (unhealed (io.Stack mismatch) vain) = e in absurd cc
 
 -- the fault of one that wasn't
 pub record IsVain (spare : Result (List ℕ) IoFault) (fault : IoFault) : Type 0 where
   pub vain : IoFault
   pub unread : spare ≡ Err vain
-  pub is : fault ≡ unhealed mismatch vain
+  pub is : fault ≡ unhealed (io.Stack mismatch) vain
 
-healed-err : (spare : Result (List ℕ) IoFault) (fault : IoFault) → Err fault ≡ healed_result mismatch spare → IsVain spare fault
+healed-err : (spare : Result (List ℕ) IoFault) (fault : IoFault) → Err fault ≡ healed_result (io.Stack mismatch) spare → IsVain spare fault
 healed-err (Ok y) fault e = let clash : Err fault ≡ Ok y = e in absurd cc
 healed-err (Err vain) fault e = record { vain = vain; unread = refl; is = ap err_fault e }
 
@@ -76,7 +76,7 @@ pub record HealsOn (c : Configuration) (v : Verity) (judged : JudgedBlock) (at n
   pub used : judged.ignored ≡ false
   pub differs : judged.made ≡ judged.lost.digest → ⊥
   pub spare : Result (List ℕ) IoFault
-  pub is : answer ≡ healed_result mismatch spare
+  pub is : answer ≡ healed_result (io.Stack mismatch) spare
   pub got : Gets (spare_wanted c v judged.lost) at new spare
 
 abbrev pub SettledOn : Configuration → Verity → JudgedBlock → List ℕ → List Device → List Device → Result (List ℕ) IoFault → Type 0
@@ -177,7 +177,7 @@ module _ {D : Type 0} {state : D → Device} {does : D → Call → D → Type 0
         let failed = healed-err heals.spare fault heals.is in
         let counted = heals.counted ∙ ap (λ (a : Result (List ℕ) IoFault). after_spare a heals.read) failed.unread in
         subst (λ (y : IoFault). Gives does c (Blocks x) n old (served to) (Err y)) (sym failed.is)
-        (subst (λ (s : Served D). Gives does c (Blocks x) n old s (Err (unhealed mismatch failed.vain))) (sym counted)
+        (subst (λ (s : Served D). Gives does c (Blocks x) n old s (Err (unhealed (io.Stack mismatch) failed.vain))) (sym counted)
         (block-unhealed h w w_is more whole end (sym same ∙ heals.used) (within heals.used) (λ good. heals.differs (of heals.used ∙ good)) failed.vain
         (subst (λ (a : Result (List ℕ) IoFault). ReadsBy does c (spare_of (place_at x (x.first / block_sectors x.verity.now + j)) expected) (served at) heals.read a) failed.unread heals.given)))
   ]

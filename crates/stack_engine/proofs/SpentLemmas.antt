@@ -31,7 +31,7 @@ use Rattle.stack_lines.proofs.lemmas.BudgetLemmas.{chain-cost as priced, budget-
 use Rattle.stack_lines.proofs.lemmas.UnitSourceLemmas.{units-of}
 use Rattle.stack_lines.proofs.lemmas.VerityLineLemmas.{place-named}
 use Rattle.stack_engine.proofs.BlockPartLemmas.{BlockAt}
-use Rattle.stack_engine.proofs.BlocksLemmas.{BlocksAt, path_cost, read_cost_so_far}
+use Rattle.stack_engine.proofs.BlocksAtLemmas.{BlocksAt, path_cost, read_cost_so_far}
 
 -- ---- run by run
 

@@ -23,12 +23,13 @@ use Rattle.stack_lines.specs.Budgets.{ReadsAtMost}
 use Rattle.stack_lines.specs.Caches.{IsCacheOf, KeepsCache}
 use Rattle.stack_lines.specs.Sources.{AreUnits, IsWholeOf, LieInUnit, source_said}
 use Rattle.stack_lines.specs.Touches.{AsksOnly, leaves_of, source_leaves}
-use Rattle.stack_lines.proofs.lemmas.AskLemmas.{asks-none, asks-up, device-asked}
+use Rattle.stack_lines.proofs.lemmas.AskLemmas.{asks-less, asks-none, asks-up, device-asked}
 use Rattle.stack_lines.proofs.lemmas.SourceLemmas.{below_plain, device_plain, zeros_plain, fails_plain}
 use Rattle.stack_lines.proofs.lemmas.TouchLemmas.{AreWithin}
 use Rattle.stack_lines.proofs.lemmas.UnitSourceLemmas.{part-plain, units-plain}
 use Rattle.stack_engine.specs.Backings.{BackingRecord}
-use Rattle.stack_engine.specs.ReadSteps.{SectorRun, run_of, run_beneath, IsReadStep, ReadsLeaf}
+use Rattle.stack_engine.specs.Healing.{HasNoParity}
+use Rattle.stack_engine.specs.ReadSteps.{HealsNone, SectorRun, run_of, run_beneath, IsReadStep, ReadsLeaf}
 use Rattle.stack_engine.proofs.CachedLemmas.{cached-read}
 use Rattle.stack_engine.proofs.RunBytesLemmas.{IsNextRun}
 use Rattle.stack_engine.proofs.SpentLemmas.{IsCutBehind, spent-all, spent-run, leaf-spent, units-spent, unit-spent}
@@ -41,12 +42,12 @@ met some = record { memory = λ is. some; leaf = λ none. absurd (none some); st
 
 -- so is its step
 pub step-met : {c : Configuration} {run : SectorRun} {old new : BackingRecord} {result : Result Unit IoFault} → MeetVerity run.said run.first run.count → KeepsCache c new.leaves old.cache new.cache
-    → AsksOnly run.leaves old.leaves new.leaves result → ReadsAtMost run.most old.leaves new.leaves → IsReadStep c run old new result
-step-met some cached touches spent = record { cached = cached; plain = met some; same = λ none. absurd (none some); uncounted = λ none. absurd (none some); touches = touches; spent = spent }
+    → AsksOnly (HasNoParity c) run.leaves old.leaves new.leaves result → ReadsAtMost run.most old.leaves new.leaves → IsReadStep c run old new result
+step-met some cached touches spent = record { cached = cached; plain = met some; same = λ none. absurd (none some); uncounted = λ none. absurd (none some); touches = asks-less (λ none. none some) touches; spent = spent }
 
 -- nothing was read
 pub step-none : {c : Configuration} {run : SectorRun} {at : BackingRecord} {result : Result Unit IoFault} → IsCacheOf c at.leaves at.cache → IsPlain run.said run.first run.count at.leaves at.leaves result
-    → AsksOnly run.leaves at.leaves at.leaves result → IsReadStep c run at at result
+    → AsksOnly (HealsNone c run) run.leaves at.leaves at.leaves result → IsReadStep c run at at result
 step-none sound plain touches = record { cached = record { capacity = refl; sound = sound }; plain = plain; same = λ none. refl; uncounted = λ none. refl; touches = touches; spent = omega arith }
 
 -- ---- from the lines down
@@ -64,7 +65,7 @@ step-up {run = run} {up = up} plain within spent p = record {
   plain = plain _ _ _ p.plain;
   same = λ none. p.same (λ some. none (up-meets plain some));
   uncounted = λ none. p.uncounted (λ some. none (up-meets plain some));
-  touches = asks-up within p.touches;
+  touches = asks-up within (asks-less (λ none some. none (up-meets plain some)) p.touches);
   spent = spent;
 }
 
@@ -87,10 +88,10 @@ module _ {c : Configuration} {old new : BackingRecord} {result : Result Unit IoF
 
 module _ {c : Configuration} {at : BackingRecord} (n : ℕ) (sound : IsCacheOf c at.leaves at.cache) where
   pub zeros-step : IsReadStep c (run_of c Zeros n) at at (Ok tt)
-  zeros-step = step-none {run = run_of c Zeros n} sound (zeros_plain c n at.leaves) (asks-none (source_leaves c Zeros) at.leaves (Ok tt) tt refl)
+  zeros-step = step-none {run = run_of c Zeros n} sound (zeros_plain c n at.leaves) (asks-none (HealsNone c (run_of c Zeros n)) (source_leaves c Zeros) at.leaves (Ok tt) tt refl)
 
   pub fails-step : 0 < n → IsReadStep c (run_of c Fails n) at at (Err (io.Stack why.ErrorTarget))
-  fails-step some = step-none {run = run_of c Fails n} sound (fails_plain c n at.leaves some) (asks-none (source_leaves c Fails) at.leaves (Err (io.Stack why.ErrorTarget)) tt refl)
+  fails-step some = step-none {run = run_of c Fails n} sound (fails_plain c n at.leaves some) (asks-none (HealsNone c (run_of c Fails n)) (source_leaves c Fails) at.leaves (Err (io.Stack why.ErrorTarget)) tt refl)
 
 pub leaf-step : {c : Configuration} {leaf first n : ℕ} {old new : List Device} {result : Result Unit IoFault} {bytes : List ℕ} (at : BackingRecord) → ReadsLeaf c leaf first n old new result bytes → old ≡ at.leaves → IsCacheOf c at.leaves at.cache
     → IsReadStep c (run_beneath c (Leaf leaf) first n) at (record { leaves = new; cache = at.cache; restored = at.restored }) result
@@ -102,7 +103,7 @@ leaf-step {c = c} {leaf = leaf} {first = first} {n = n} {new = new} {result = re
       plain = here.plain;
       same = λ none. refl;
       uncounted = λ none. refl;
-      touches = here.touches;
+      touches = asks-less (λ none. tt) here.touches;
       spent = leaf-spent c leaf first n moved;
     }
 
@@ -126,7 +127,8 @@ module _ {c : Configuration} {d first at all count : ℕ} {source : Source} {byt
         plain = device_plain c d first (at / 512) count end source loaded fits run.served p.plain r.plain;
         same = λ apart. r.same (λ some. apart (run-meets end fits some)) ∙ p.same (λ some. apart (some.0, omega (arith, some.1, fits), some.2));
         uncounted = λ apart. r.uncounted (λ some. apart (run-meets end fits some)) ∙ p.uncounted (λ some. apart (some.0, omega (arith, some.1, fits), some.2));
-        touches = device-asked c d (first + at / 512) count source loaded run.some run.served p.touches r.touches;
+        touches = device-asked c d (first + at / 512) count source loaded run.some run.served
+            (asks-less (λ none some. none (some.0, omega (arith, some.1, fits), some.2)) p.touches) (asks-less (λ none some. none (run-meets end fits some)) r.touches);
         spent = spent-all c d first (at / 512 + count) end loaded behind old.leaves new.leaves spent fits;
       }
 
@@ -143,4 +145,4 @@ module _ {c : Configuration} {d first at all count : ℕ} {source : Source} {byt
 -- none yet
 pub device-begin : {c : Configuration} (d first : ℕ) {at : BackingRecord} → IsCacheOf c at.leaves at.cache → IsReadStep c (run_beneath c (mapped d) first 0) at at (Ok tt)
 device-begin {c = c} d first {at = at} sound =
-    step-none {run = run_beneath c (mapped d) first 0} sound (plain-none (said_at c (mapped d)) first 0 at.leaves (Ok tt) (λ e. cc) tt) (asks-none (leaves_of c (mapped d)) at.leaves (Ok tt) tt refl)
+    step-none {run = run_beneath c (mapped d) first 0} sound (plain-none (said_at c (mapped d)) first 0 at.leaves (Ok tt) (λ e. cc) tt) (asks-none (HealsNone c (run_beneath c (mapped d) first 0)) (leaves_of c (mapped d)) at.leaves (Ok tt) tt refl)

@@ -19,9 +19,9 @@ use Rattle.stack_lines.proofs.lemmas.TouchLemmas.{AreWithin, data-within, hash-w
 use Rattle.stack_lines.proofs.lemmas.AskLemmas.{EndAlike, asks-then, asks-as, asks-up}
 
 -- what touches the leaves of an extent touches those of the device on which it lies
-pub extent-touched : {A : Type 0} (c : Configuration) {on : Lower} {s n : ℕ} (extent : Extent) {old new : List Device} {result : Result A IoFault} → IsExtent c on s n extent → AsksOnly (leaves_of c extent.lower) old new result
-    → AsksOnly (leaves_of c on) old new result
-extent-touched c extent {old = old} {new = new} {result = result} is p = subst (λ (e : Extent). AsksOnly (leaves_of c e.lower) old new result) is.value p
+pub extent-touched : {A Unhealed : Type 0} (c : Configuration) {on : Lower} {s n : ℕ} (extent : Extent) {old new : List Device} {result : Result A IoFault} → IsExtent c on s n extent → AsksOnly Unhealed (leaves_of c extent.lower) old new result
+    → AsksOnly Unhealed (leaves_of c on) old new result
+extent-touched {Unhealed = Unhealed} c extent {old = old} {new = new} {result = result} is p = subst (λ (e : Extent). AsksOnly Unhealed (leaves_of c e.lower) old new result) is.value p
 
 buffer-fault : (these : ℕ → Bool) (result : Result Unit IoFault) (bytes : List ℕ) → IfErr result (NamesOneOf these) → IfErr (buffer_answer result bytes) (NamesOneOf these)
 buffer-fault these (Ok x) bytes h = tt
@@ -32,7 +32,7 @@ buffer-alike (Ok x) bytes failures = refl
 buffer-alike (Err fault) bytes failures = refl
 
 -- a buffer was filled, or not
-pub buffer-touched : {these : ℕ → Bool} {old new : List Device} (result : Result Unit IoFault) (bytes : List ℕ) → AsksOnly these old new result → AsksOnly these old new (buffer_answer result bytes)
+pub buffer-touched : {Unhealed : Type 0} {these : ℕ → Bool} {old new : List Device} (result : Result Unit IoFault) (bytes : List ℕ) → AsksOnly Unhealed these old new result → AsksOnly Unhealed these old new (buffer_answer result bytes)
 buffer-touched {these = these} result bytes p = asks-as (buffer_answer result bytes) (buffer-fault these result bytes p.fault) (buffer-alike result bytes) p
 
 -- one device by two names
@@ -41,8 +41,8 @@ same-within c at i out = ap (λ (x : DevId). leaves_of c (mapped x.0) i) at ∙ 
 
 module _ (c : Configuration) (v : Verity) (tree : Tree) (loaded : IsLoaded c) (lies : IsTreeOf c v tree) where
   -- a hash block was read
-  pub hash-touched : {A : Type 0} {s n : ℕ} (extent : Extent) {old new : List Device} {result : Result A IoFault} → IsExtent c tree.hash s n extent → AsksOnly (leaves_of c extent.lower) old new result
-      → AsksOnly (leaves_of c (mapped tree.device.0)) old new result
+  pub hash-touched : {A Unhealed : Type 0} {s n : ℕ} (extent : Extent) {old new : List Device} {result : Result A IoFault} → IsExtent c tree.hash s n extent → AsksOnly Unhealed (leaves_of c extent.lower) old new result
+      → AsksOnly Unhealed (leaves_of c (mapped tree.device.0)) old new result
   hash-touched extent is p = asks-up (hash-within c v tree loaded lies) (extent-touched c extent is p)
 
   module _ (d : DevId) (at : tree.device ≡ d) where
@@ -53,6 +53,6 @@ module _ (c : Configuration) (v : Verity) (tree : Tree) (loaded : IsLoaded c) (l
     data-within-device i out = data-within c v tree loaded lies i (same-within c at i out)
 
     -- after some blocks the hash blocks on the way to the next one were read, and then data blocks
-    pub data-touched : {A B C : Type 0} {old mid walk new : List Device} {x : A} {y : B} {result : Result C IoFault} → AsksOnly (leaves_of c (mapped d.0)) old mid (Ok x) → AsksOnly (leaves_of c tree.hash) mid walk (Ok y)
-        → AsksOnly (leaves_of c tree.data) walk new result → AsksOnly (leaves_of c (mapped d.0)) old new result
+    pub data-touched : {A B C Unhealed : Type 0} {old mid walk new : List Device} {x : A} {y : B} {result : Result C IoFault} → AsksOnly Unhealed (leaves_of c (mapped d.0)) old mid (Ok x) → AsksOnly Unhealed (leaves_of c tree.hash) mid walk (Ok y)
+        → AsksOnly Unhealed (leaves_of c tree.data) walk new result → AsksOnly Unhealed (leaves_of c (mapped d.0)) old new result
     data-touched p q r = asks-then (asks-then p (asks-up hash-within-device q)) (asks-up data-within-device r)

@@ -1,7 +1,7 @@
 -- What is written to part of a unit, which is read, changed and written whole.
-use Rattle.std.proofs.Common.{◌≡◌, ℕ, ◌+◌, ◌-◌, ◌*◌, ◌/◌, ◌%◌, ◌<◌, ◌≤◌, IsTrue, List, ◌++◌, length, map, take, drop, Contains, Result, Ok, Err, refl, sym, ap, ◌∙◌, subst, arith}
+use Rattle.std.proofs.Common.{◌≡◌, ℕ, ◌+◌, ◌-◌, ◌*◌, ◌/◌, ◌%◌, ◌<◌, ◌≤◌, IsTrue, List, length, map, Contains, Result, Ok, Err, refl, sym, ap, ◌∙◌, subst, arith}
 use Rattle.std.specs.List.{concat}
-use Rattle.std.proofs.lemmas.List.{take_all, length-append, length-take, length-drop}
+use Rattle.std.proofs.lemmas.List.{take_all}
 use Rattle.std.proofs.lemmas.Nat.{div-add-mod', div-mul-add}
 use Rattle.std.proofs.Math.Nat.{mul-add, mul-le-mul_right}
 use Rattle.block_device.specs.Device.{Device, sectors_of, spliced}
@@ -26,6 +26,7 @@ use Rattle.stack_meaning.specs.Puts.{Put, stopped, read_put, encrypted_sectors, 
 use Rattle.stack_meaning.specs.Leaves.{steady_images, fixed_part, AreSteady, Moves}
 use Rattle.stack_lines.specs.Touches.{EndsAtFailure, failures_behind, failures_of, leaves_of, source_leaves}
 use Rattle.stack_meaning.specs.Changes.{AllWhole, reached, KeepsOthers, AreWritten}
+use Rattle.stack_engine.specs.Healing.{HasNoParity}
 use Rattle.stack_meaning.specs.Reading.{Ends, Answers, MeetVerity, IsPlain}
 use Rattle.stack_lines.specs.Sources.{LieInUnit, IsWholeOf, source_said, ReadsSource}
 use Rattle.stack_lines.specs.Writing.{SomeEncrypt, sectors_in, crypt_put, MayEnd, IsPut, FailedBy, StopsAt, IsCounted, StopsAtFault, StopsBehindPut, with_some, WritesSectors, source_destination}
@@ -33,6 +34,7 @@ use Rattle.stack_meaning.proofs.lemmas.UnitSizeLemmas.{per_unit-some}
 use Rattle.stack_lines.proofs.lemmas.UnitPutLemmas.{sectors_in-of, whole-put, some-put}
 use Rattle.stack_lines.proofs.lemmas.UnitReadLemmas.{images-whole, unit-means, whole-unit, unit-fails}
 use Rattle.stack_lines.proofs.lemmas.UnitSourceLemmas.{begin-whole, part-some, part-has, part-up}
+use Rattle.stack_engine.proofs.RunBytesLemmas.{length-put}
 use Rattle.stack_engine.proofs.WritablePlainLemmas.{none-verity}
 use Rattle.stack_meaning.proofs.lemmas.ChangeLemmas.{AreWritten-more, AreWritten-then, AreWritten-read}
 use Rattle.stack_meaning.proofs.lemmas.LeafListLemmas.{AreSteady-kept, images-kept, failed_later}
@@ -44,12 +46,6 @@ use Rattle.stack_lines.proofs.lemmas.WriteRunLemmas.{length-sectors_in, MayEnd-a
 
 abbrev err_of : IoFault → Result Unit IoFault
 err_of fault = Err fault
-
-length-put : (plain : List ℕ) (at : ℕ) (bytes : List ℕ) (size : ℕ) → length plain ≡ size → at + length bytes ≤ size → length (put_at plain at bytes) ≡ size
-length-put plain at bytes size long fits =
-    length-append (take at plain ++ bytes) (drop (at + length bytes) plain)
-    ∙ ap (λ (k : ℕ). k + length (drop (at + length bytes) plain)) (length-append (take at plain) bytes)
-    ∙ (omega (arith, long, fits, length-take at plain, length-drop (at + length bytes) plain))
 
 module _ (c : Configuration) (v : CryptPart) (whole : WholeUnit) (bytes : List ℕ) (n : ℕ) (loaded : IsLoaded c) (of : IsWholeOf v whole) (lies : LieInUnit c v n) (some : 0 < n) (len : length bytes ≡ 512 * n) (writable : IsTrue (may_write c v.lower)) where
   begin-is : v.first - v.first % per_unit v.units ≡ v.first / per_unit v.units * per_unit v.units
@@ -72,6 +68,10 @@ module _ (c : Configuration) (v : CryptPart) (whole : WholeUnit) (bytes : List �
   none-meets y =
       let h : (crypt_said (said_at c v.lower) v.units v.key.now (v.first - v.first % per_unit v.units + (0 + y.0))).meets mismatch = subst (λ (z : Said). z.meets mismatch) (from-said (0 + y.0)) y.2 in
       none-verity c loaded v.lower writable (unit_first v.units (v.first - v.first % per_unit v.units + (0 + y.0))) (per_unit v.units) h
+
+  -- so that the read ends at the first call that fails
+  pub unit-ends : {X : Type 0} {k : ℕ} → k ≡ whole.sectors → ((MeetVerity (source_said c (Units whole.from)) 0 k → HasNoParity c) → X) → X
+  unit-ends count ends = ends (λ meets. absurd (none-meets (subst (λ (k : ℕ). MeetVerity (source_said c (Units whole.from)) 0 k) count meets)))
 
   meet-part : (x : Fault) → SomeOf (λ j. (source_said c (Units whole.from) j).meets x) 0 whole.sectors → SomeOf (λ j. (source_said c (UnitPart v) j).meets x) 0 n
   meet-part x = part-some c v whole n of lies some (λ y. y.meets x) (λ s s' lower e h. subst (λ (k : ℕ). SomeOf (λ t. (lower t).meets x) k (per_unit v.units)) e h)
@@ -238,7 +238,7 @@ module _ (c : Configuration) (v : CryptPart) (whole : WholeUnit) (bytes : List �
     moved = AreWritten-more (λ x h. h) (omega (arith, paid)) (read-moved (Err fault) (Err fault) p q);
     ends = read-ends old new after fault p.got.may (λ is. none-meets (q.memory (ap err_of is)));
     grown = λ is. none-meets (q.memory is);
-    exact = λ steady. read-exact old new fault all (p.got.exact (unit-steady old steady)) (images-kept p.got.moved);
+    exact = λ steady. read-exact old new fault all (p.got.exact (record { steady = unit-steady old steady; agrees = λ meets. absurd (none-meets meets) })) (images-kept p.got.moved);
     stops = λ counted. read-stop fault p q counted;
     behind = λ steady counted. stop-here (source_destination c (UnitPart v)) 0 (sectors_in bytes) p.got.moved.moved.fixed (read-stop fault p q counted) (λ j h. absurd (omega (arith, h)));
     unread = λ none. absurd (none one-encrypts);
@@ -287,7 +287,7 @@ module _ (c : Configuration) (v : CryptPart) (whole : WholeUnit) (bytes : List �
             (λ x h. meets-more x (subst (λ (k : ℕ). SomeOf (λ j. (source_said c (Units whole.from) j).meets x) 0 k) outs h)) w.ends) p.got.moved.moved w.moved.moved;
         grown = w.grown;
         exact = λ steady.
-            let under = beneath-is old all plain (p.got.exact (unit-steady old steady)) in
+            let under = beneath-is old all plain (p.got.exact (record { steady = unit-steady old steady; agrees = λ meets. absurd (none-meets meets) })) in
             let images = images-kept p.got.moved in
             let bytes_are : out ≡ changed_unit v.units v.key.now v.first (sectors_in bytes) under.0 =
             is ∙ changed-is plain long ∙ ap (λ (x : List ℕ). concat (spliced (sectors_of u x) (v.first % u) (sectors_in bytes))) under.2 in

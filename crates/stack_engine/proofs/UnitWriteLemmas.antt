@@ -25,7 +25,7 @@ use Rattle.stack_lines.specs.Sources.{AreUnits, source_said}
 use Rattle.stack_lines.specs.Writing.{sectors_in, crypt_put, IsPut, StopsAt, StopsAtFault, StopsBehindPut, with_some, destination_of, WritesSectors, source_destination}
 use Rattle.stack_meaning.proofs.lemmas.UnitSizeLemmas.{per_unit-some}
 use Rattle.stack_lines.proofs.lemmas.UnitSourceLemmas.{units-up}
-use Rattle.stack_lines.proofs.lemmas.UnitReadLemmas.{units-some, unit_first-more}
+use Rattle.stack_lines.proofs.lemmas.UnitFirstLemmas.{units-some, unit_first-more}
 use Rattle.stack_lines.proofs.lemmas.UnitPutLemmas.{unit-step, unit-apart, units-apart, front-more, front-length, lower-units}
 use Rattle.stack_meaning.proofs.lemmas.ChangeLemmas.{AreWritten-more}
 use Rattle.stack_meaning.proofs.lemmas.FoundLemmas.{in-gathered}

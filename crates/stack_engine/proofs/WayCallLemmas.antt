@@ -10,7 +10,6 @@ use Rattle.stack_rules.specs.declared.lower.Lower.{Lower}
 use Rattle.stack_rules.specs.Records.{Configuration}
 use Rattle.stack_rules.specs.Trees.{tree_of, block_sectors}
 use Rattle.stack_meaning.specs.Blocks.{next_digest, is_ignored}
-use Rattle.stack_meaning.specs.declared.fault.Fault.{Fault}
 use Rattle.stack_meaning.specs.declared.fault.Fault.TheVariants as why
 use Rattle.stack_meaning.specs.declared.fault.IoFault.{IoFault}
 use Rattle.stack_meaning.specs.declared.fault.IoFault.TheVariants as io
@@ -22,7 +21,7 @@ use Rattle.verified_cache.specs.Cache.{CachedBlock}
 use Rattle.stack_engine.specs.LeafCalls.{LeafCall}
 use Rattle.stack_engine.specs.Restored.{Served, after_spare, restored_after}
 use Rattle.stack_engine.specs.SectorCalls.{AreReadTogether, DataPlace, digest_after, DataRead, ExpectedBlock, Gives, LeadsTo, ReadCalls, ReadOf, ReadsBy, block_of, block_part, data_of, expected_data, expected_hash, hash_of, last_bytes, one_block, place_at, place_in, spare_of, whole_data, chain_found, data_read, data_unread, data_full, block_checked, block_differs, block_unread, hash_lost, hash_read, way_down, way_stops, way_full, one_read, one_healed}
-use Rattle.stack_engine.specs.Healing.{IsSettled, healed_result}
+use Rattle.stack_engine.specs.Healing.{IsHealed, IsSettled, healed_result}
 use Rattle.stack_engine.proofs.LeafCallLemmas.{makes-then}
 use Rattle.stack_engine.proofs.ReadCallLemmas.{reads-none, reads-as, reads-then}
 
@@ -118,7 +117,7 @@ module _ {D : Type 0} {does : D → Call → D → Type 0} {c : Configuration} w
 
   -- ---- one data block
 
-  pub one-given : {p : DataPlace} {e : Extent} {expected : List ℕ} {old new : Served D} {answer : Result (List ℕ) IoFault} (last : List ℕ) → is_ignored p.verity expected ≡ false → e ≡ (expected_data p expected).extent → IfErr answer IsSettled
+  pub one-given : {p : DataPlace} {e : Extent} {expected : List ℕ} {old new : Served D} {answer : Result (List ℕ) IoFault} (last : List ℕ) → is_ignored p.verity expected ≡ false → e ≡ (expected_data p expected).extent → IfErr answer (IsSettled p.verity.parity)
       → ReadsBy does c (block_of (record { extent = e; salt = p.verity.salt; digest = expected })) old new answer → ReadsBy does c (data_of p 0 expected last one_block) old new answer
   one-given {p = p} {expected = expected} {old = old} {new = new} {answer = answer} last used at settled h =
       reads-as (λ calls a. one_read last used settled a) (subst (λ (x : Extent). ReadsBy does c (block_of (record { extent = x; salt = p.verity.salt; digest = expected })) old new answer) at h)
@@ -129,10 +128,10 @@ module _ {D : Type 0} {does : D → Call → D → Type 0} {c : Configuration} w
   counted both h k = record { made = makes-then both h.made k.made }
 
   -- by its spare
-  pub one-healed : {p : DataPlace} {e : Extent} {expected : List ℕ} {fault : Fault} {old mid new : Served D} {spare : Result (List ℕ) IoFault} (last : List ℕ) → is_ignored p.verity expected ≡ false → e ≡ (expected_data p expected).extent
-      → ReadsBy does c (block_of (record { extent = e; salt = p.verity.salt; digest = expected })) old mid (Err (io.Stack fault)) → ReadsBy does c (spare_of p expected) mid new spare → ReadsBy does c (data_of p 0 expected last one_block) old (after_spare spare new) (healed_result fault spare)
-  one-healed {p = p} {expected = expected} {fault = fault} {old = old} {mid = mid} last used at h got =
-      counted (λ calls later a b. one_healed last used a b) (subst (λ (x : Extent). ReadsBy does c (block_of (record { extent = x; salt = p.verity.salt; digest = expected })) old mid (Err (io.Stack fault))) at h) got
+  pub one-healed : {p : DataPlace} {e : Extent} {expected : List ℕ} {fault : IoFault} {old mid new : Served D} {spare : Result (List ℕ) IoFault} (last : List ℕ) → is_ignored p.verity expected ≡ false → IsHealed p.verity.parity fault → e ≡ (expected_data p expected).extent
+      → ReadsBy does c (block_of (record { extent = e; salt = p.verity.salt; digest = expected })) old mid (Err fault) → ReadsBy does c (spare_of p expected) mid new spare → ReadsBy does c (data_of p 0 expected last one_block) old (after_spare spare new) (healed_result fault spare)
+  one-healed {p = p} {expected = expected} {fault = fault} {old = old} {mid = mid} last used heals at h got =
+      counted (λ calls later a b. one_healed last used heals a b) (subst (λ (x : Extent). ReadsBy does c (block_of (record { extent = x; salt = p.verity.salt; digest = expected })) old mid (Err fault)) at h) got
 
   -- of a part
   module _ (x : VerityPart) (n : ℕ) {p : DataPlace} {s : ℕ} (sectors : s ≡ block_sectors x.verity.now) (same : p ≡ place_at x (x.first / s)) where

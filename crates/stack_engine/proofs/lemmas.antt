@@ -5,6 +5,7 @@ pub mod CallEndLemmas
 pub mod DamagedLemmas
 pub mod FormattedLemmas
 pub mod MendLemmas
+pub mod NoParityLemmas
 pub mod PieceLemmas
 pub mod RestoredLemmas
 pub mod RoundLemmas

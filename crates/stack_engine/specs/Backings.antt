@@ -7,6 +7,7 @@ use Rattle.stack_meaning.specs.Found.{FoundRecord}
 use Rattle.stack_meaning.specs.Places.{LeafRead}
 use Rattle.stack_lines.specs.Caches.{StackCache, KeepsCache}
 use Rattle.stack_lines.specs.Touches.{AsksOnly}
+use Rattle.stack_engine.specs.Healing.{HasNoParity}
 use Rattle.stack_engine.specs.Restored.{Served, serving}
 use Rattle.stack_engine.specs.Stacks.{IsStack}
 use Rattle.stack_engine.specs.declared.backing.Backing.{Backing}
@@ -38,9 +39,9 @@ IsBacking state c backing = IsStack c (leaves_in state backing) backing.cache
 abbrev pub StaysSound : {D : Type 0} → (D → Device) → Configuration → Backing D → Backing D → Type 0
 StaysSound state c old new = KeepsCache c (leaves_in state new) old.cache new.cache
 
--- it ends at the first device call that fails, and accesses only these leaves
-abbrev pub Asks : {D A : Type 0} → (D → Device) → (ℕ → Bool) → Backing D → Backing D → Result A IoFault → Type 0
-Asks state these old new result = AsksOnly these (leaves_in state old) (leaves_in state new) result
+-- without parity it ends at the first device call that fails, and it accesses only these leaves
+abbrev pub Asks : {D A : Type 0} → (D → Device) → Configuration → (ℕ → Bool) → Backing D → Backing D → Result A IoFault → Type 0
+Asks state c these old new result = AsksOnly (HasNoParity c) these (leaves_in state old) (leaves_in state new) result
 
 -- a read: the leaves and the chains that were found, before and after it
 abbrev pub did : {D : Type 0} → (D → Device) → Backing D → List FoundRecord → Backing D → List FoundRecord → LeafRead

@@ -13,11 +13,13 @@ use Rattle.stack_meaning.specs.Outcomes.{span}
 use Rattle.stack_meaning.specs.Found.{FoundRecord}
 use Rattle.stack_meaning.specs.Meaning.{sector}
 use Rattle.stack_meaning.specs.May.{MayRead, MayFault}
-use Rattle.stack_meaning.specs.Leaves.{steady_images, AreSteady, AreRead}
+use Rattle.stack_meaning.specs.Leaves.{steady_images, AreRead}
 use Rattle.stack_meaning.specs.Places.{place_of, run_expected}
 use Rattle.stack_meaning.specs.Reading.{Ends, Answers, Gets}
 use Rattle.stack_lines.specs.Touches.{EndsAtFailure, TouchesOnly, leaves_of}
 use Rattle.stack_lines.specs.Walks.{HasVerity}
+use Rattle.stack_engine.specs.Healing.{HasNoParity}
+use Rattle.stack_engine.specs.Pieces.{IsCertainPiece, MeetsVerity}
 use Rattle.stack_engine.specs.Stacks.{StackRecord}
 
 -- a chain is good for the verity line that it names
@@ -39,9 +41,9 @@ pub record AnyBytes (w : StackRecord) (d first n : ℕ) (answer : Result (List �
   pub moved : AreRead w.leaves (n * read_cost w.config (mapped d)) w'.leaves
   pub may : Ends (MayBeBytes w.config (mapped d) first n) (MayFault w.config (mapped d) first n) w.leaves w'.leaves answer
   pub touches : TouchesOnly (leaves_of w.config (mapped d)) w.leaves w'.leaves answer
-  pub fails : EndsAtFailure w.leaves w'.leaves answer
+  pub fails : (MeetsVerity w d first n → HasNoParity w.config) → EndsAtFailure w.leaves w'.leaves answer
 
--- where the leaves beneath are steady: what the stack means
+-- where the leaves beneath determine it: what the stack means
 pub record SteadyBytes (w : StackRecord) (d first n : ℕ) (answer : Result (List ℕ) IoFault) (w' : StackRecord) : Type 0 where
   pub any : AnyBytes w d first n answer w'
   pub exact : Answers (λ bytes. bytes) (span (sector w.config (steady_images w.leaves) (mapped d)) first n) answer
@@ -49,7 +51,7 @@ pub record SteadyBytes (w : StackRecord) (d first n : ℕ) (answer : Result (Lis
 -- both
 pub record EachBytes (w : StackRecord) (d first n : ℕ) (answer : Result (List ℕ) IoFault) (w' : StackRecord) : Type 0 where
   pub any : AnyBytes w d first n answer w'
-  pub steady : AreSteady (leaves_of w.config (mapped d)) w.leaves → SteadyBytes w d first n answer w'
+  pub steady : IsCertainPiece w d first n → SteadyBytes w d first n answer w'
 
 -- ---- on the way
 

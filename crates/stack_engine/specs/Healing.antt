@@ -1,22 +1,49 @@
--- A data block, and its spare where the block's own read ended in a fault of the lines.
-use Rattle.std.specs.Prelude.{Result, Ok, Err}
-use Rattle.stack_meaning.specs.declared.fault.Fault.{Fault}
+-- A data block, and its spare where the block's own read ended in a fault.
+use Rattle.std.specs.Prelude.{◌≡◌, ℕ, Bool, true, false, IsTrue, Option, None, is_some, Result, Ok, Err}
+use Rattle.dm_table.specs.declared.parity.Parity.{Parity}
+use Rattle.dm_table.specs.declared.verity.Verity.{Verity}
+use Rattle.stack_rules.specs.Records.{Configuration}
+use Rattle.stack_lines.specs.Touches.{NamesOneOf}
+use Rattle.stack_lines.specs.Walks.{HasVerity}
 use Rattle.stack_meaning.specs.declared.fault.IoFault.{IoFault}
 use Rattle.stack_meaning.specs.declared.fault.IoFault.TheVariants as io
 
--- the fault is a device's or of memory: it isn't healed
-abbrev pub IsSettled : IoFault → Type 0
-IsSettled (io.Stack fault) = ⊥
-IsSettled (io.Device i) = Unit {0}
-IsSettled io.NoMemory = Unit {0}
+-- no `verity` line has parity
+abbrev pub HasNoParity : Configuration → Type 0
+HasNoParity c = (d l : ℕ) (v : Verity) → HasVerity c d l v → v.parity ≡ None
+
+-- the spare of a block of a line with that parity is read after the block's own read ended in that fault: in one of the lines, or in
+-- a device's if there is parity
+abbrev pub can_heal : Option Parity → IoFault → Bool
+can_heal parity (io.Stack fault) = true
+can_heal parity (io.Device i) = is_some parity
+can_heal parity io.NoMemory = false
+
+-- it is, or the fault stays
+abbrev pub IsHealed : Option Parity → IoFault → Type 0
+IsHealed parity fault = IsTrue (can_heal parity fault)
+
+abbrev pub IsSettled : Option Parity → IoFault → Type 0
+IsSettled parity fault = can_heal parity fault ≡ false
+
+-- it is such a fault, and no other leaf's than one of these
+pub record HealsFault (parity : Option Parity) (these : ℕ → Bool) (fault : IoFault) : Type 0 where
+  pub heals : IsHealed parity fault
+  pub named : NamesOneOf these fault
+
+-- the fault of the block if that is a device's, else that of the device that failed as the spare was read
+abbrev pub first_device : IoFault → ℕ → IoFault
+first_device (io.Stack own) i = io.Device i
+first_device (io.Device own) i = io.Device own
+first_device io.NoMemory i = io.Device i
 
 -- the fault of a block whose own read ended in the first fault, and that of its spare in the other one
-abbrev pub unhealed : Fault → IoFault → IoFault
-unhealed own (io.Stack vain) = io.Stack own
-unhealed own (io.Device i) = io.Device i
+abbrev pub unhealed : IoFault → IoFault → IoFault
+unhealed own (io.Stack vain) = own
+unhealed own (io.Device i) = first_device own i
 unhealed own io.NoMemory = io.NoMemory
 
 -- what is answered of a block whose read ended in that fault, after its spare
-abbrev pub healed_result : {A : Type 0} → Fault → Result A IoFault → Result A IoFault
+abbrev pub healed_result : {A : Type 0} → IoFault → Result A IoFault → Result A IoFault
 healed_result fault (Ok x) = Ok x
 healed_result fault (Err vain) = Err (unhealed fault vain)

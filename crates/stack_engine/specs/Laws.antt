@@ -25,17 +25,16 @@ use Rattle.stack_rules.specs.RulesOf.{rules_of}
 use Rattle.stack_rules.specs.Trees.{tree_of, line_data_sectors, block_sectors, zero_block}
 use Rattle.stack_meaning.specs.Blocks.{hash_sectors, is_ignored}
 use Rattle.stack_meaning.specs.Found.{FoundRecord}
-use Rattle.stack_meaning.specs.Leaves.{steady_images, AreSteady}
+use Rattle.stack_meaning.specs.Leaves.{steady_images}
 use Rattle.stack_meaning.specs.LeavesBeneath.{leaves_beneath}
 use Rattle.stack_meaning.specs.May.{MayBe}
 use Rattle.stack_meaning.specs.Meaning.{content_part, line_said, sector, said_by_name}
 use Rattle.stack_meaning.specs.Outcomes.{Images, AreWhole, Outcome, span, part, zero_sector}
 use Rattle.stack_meaning.specs.Reading.{Answers}
-use Rattle.stack_lines.specs.Touches.{leaves_of}
 use Rattle.stack_lines.specs.Walks.{HasVerity}
 use Rattle.stack_engine.specs.Bytes.{MayBeBytes}
 use Rattle.stack_engine.specs.KeptBlocks.{WriteKeeps}
-use Rattle.stack_engine.specs.Pieces.{EachPiece}
+use Rattle.stack_engine.specs.Pieces.{EachPiece, IsCertainPiece}
 use Rattle.stack_engine.specs.WritePieces.{AnyWrite}
 use Rattle.stack_engine.specs.Stacks.{StackRecord, AnswerRecord}
 
@@ -87,7 +86,7 @@ SpansStandOnLeaves = (c : Configuration) (lower : Lower) (images other : Images)
 -- images that have theirs, whatever the other leaves are and hold.
 abbrev pub OtherLeavesChangeNoAnswer : Type 0
 OtherLeavesChangeNoAnswer = (w w' : StackRecord) (d first n : ℕ) (answer : Result AnswerRecord IoFault) → EachPiece w d first n answer w'
-    → AreSteady (leaves_of w.config (mapped d)) w.leaves
+    → IsCertainPiece w d first n
     → (images : Images) → All (λ i. slice_index_or (steady_images w.leaves) i [] ≡ slice_index_or images i []) (leaves_beneath w.config (mapped d))
     → Answers (λ got. got.bytes) (span (sector w.config images (mapped d)) first n) answer
 

@@ -20,3 +20,4 @@ pub mod WriteSteps
 pub mod Syncs
 pub mod Laws
 pub mod DamagedData
+pub mod Agreeing

@@ -11,11 +11,13 @@ use Rattle.stack_meaning.specs.Outcomes.{span}
 use Rattle.stack_meaning.specs.Meaning.{said_at, sector}
 use Rattle.stack_meaning.specs.May.{MayBe, MayFault}
 use Rattle.stack_meaning.specs.Leaves.{steady_images, AreSteady, AreRead}
-use Rattle.stack_meaning.specs.Reading.{Ends, Answers, MeetVerity}
+use Rattle.stack_meaning.specs.Places.{place_of, run_expected}
+use Rattle.stack_meaning.specs.Reading.{Ends, Answers, IsCertain, MeetVerity}
 use Rattle.stack_meaning.specs.Stops.{ReadStops}
 use Rattle.stack_lines.specs.declared.source.Source.TheVariants.{Below}
 use Rattle.stack_lines.specs.Budgets.{budget}
 use Rattle.stack_lines.specs.Touches.{EndsAtFailure, TouchesOnly, leaves_of}
+use Rattle.stack_engine.specs.Healing.{HasNoParity}
 use Rattle.stack_engine.specs.LeafCalls.{LeafCall, ServesCalls}
 use Rattle.stack_engine.specs.SectorCalls.{AreReadCalls}
 use Rattle.stack_engine.specs.Stacks.{StackRecord, AnswerRecord}
@@ -32,6 +34,11 @@ stack_over config leaves capacity = stack_with config leaves (record { capacity 
 -- the leaves beneath a mapped device are steady
 abbrev pub AreSteadyBeneath : StackRecord → ℕ → Type 0
 AreSteadyBeneath w d = AreSteady (leaves_of w.config (mapped d)) w.leaves
+
+-- the leaves beneath mapped device d are steady; and if a `verity` line is on the way of one of n sectors, from the first on, no block
+-- that parity restores on them is another one than the stored block
+abbrev pub IsCertainPiece : StackRecord → ℕ → ℕ → ℕ → Type 0
+IsCertainPiece w d first n = IsCertain (run_expected (place_of w.config (mapped d)) [] first n) w.leaves
 
 -- a `verity` line is on the way of one of n sectors of mapped device d, from the first on
 abbrev pub MeetsVerity : StackRecord → ℕ → ℕ → ℕ → Type 0
@@ -73,9 +80,9 @@ pub record AnyPiece (w : StackRecord) (d first n : ℕ) (answer : Result AnswerR
   pub moved : AreRead w.leaves (n * read_cost w.config (mapped d)) w'.leaves
   pub may : Ends (λ got. MayBe w.config (mapped d) first n got.bytes got.chains) (MayFault w.config (mapped d) first n) w.leaves w'.leaves answer
   pub touches : TouchesOnly (leaves_of w.config (mapped d)) w.leaves w'.leaves answer
-  pub fails : EndsAtFailure w.leaves w'.leaves answer
+  pub fails : (MeetsVerity w d first n → HasNoParity w.config) → EndsAtFailure w.leaves w'.leaves answer
 
--- where the leaves beneath are steady: what the stack means
+-- where the leaves beneath determine it: what the stack means
 pub record SteadyPiece (w : StackRecord) (d first n : ℕ) (answer : Result AnswerRecord IoFault) (w' : StackRecord) : Type 0 where
   pub any : AnyPiece w d first n answer w'
   pub exact : Answers (λ got. got.bytes) (span (sector w.config (steady_images w.leaves) (mapped d)) first n) answer
@@ -83,4 +90,4 @@ pub record SteadyPiece (w : StackRecord) (d first n : ℕ) (answer : Result Answ
 -- both
 pub record EachPiece (w : StackRecord) (d first n : ℕ) (answer : Result AnswerRecord IoFault) (w' : StackRecord) : Type 0 where
   pub any : AnyPiece w d first n answer w'
-  pub steady : AreSteady (leaves_of w.config (mapped d)) w.leaves → SteadyPiece w d first n answer w'
+  pub steady : IsCertainPiece w d first n → SteadyPiece w d first n answer w'

@@ -32,6 +32,7 @@ use Rattle.stack_engine.specs.declared.backing.Backing.{Backing}
 use Rattle.stack_engine.specs.declared.path.WantedBlock.{WantedBlock}
 use Rattle.stack_engine.specs.Backings.{BackingRecord, backing_of, leaves_in, served}
 use Rattle.stack_engine.specs.Bytes.{GetsBytes}
+use Rattle.stack_engine.specs.Healing.{HasNoParity}
 use Rattle.stack_engine.specs.Premises.{CanRead}
 use Rattle.stack_engine.specs.SectorCalls.{DataPlace, DataRead, ExpectedBlock, LeadsTo, ReadOf, ReadsBy, data_of, expected_hash, hash_of, last_bytes, one_block, sectors_of, whole_data}
 
@@ -57,14 +58,18 @@ run_of c source n = record { said = source_said c source; first = 0; count = n; 
 abbrev pub run_beneath : Configuration → Lower → ℕ → ℕ → SectorRun
 run_beneath c lower first n = record { said = said_at c lower; first = first; count = n; leaves = leaves_of c lower; most = budget c lower first n }
 
--- What a read of a run leaves, whatever it answers. It ends at the first device call that fails, and keeps hash blocks only
--- that are sound. Without a `verity` line on the way it is plain, the kept hash blocks stay, and nothing is restored.
+-- what a read of a run can't do: restore a block that can't be read
+abbrev pub HealsNone : Configuration → SectorRun → Type 0
+HealsNone c run = MeetVerity run.said run.first run.count → HasNoParity c
+
+-- What a read of a run leaves, whatever it answers. It ends at the first device call that fails, unless parity may restore, and keeps
+-- hash blocks only that are sound. Without a `verity` line on the way it is plain, the kept hash blocks stay, and nothing is restored.
 pub record IsReadStep (c : Configuration) (run : SectorRun) (old new : BackingRecord) (result : Result Unit IoFault) : Type 0 where
   pub cached : KeepsCache c new.leaves old.cache new.cache
   pub plain : IsPlain run.said run.first run.count old.leaves new.leaves result
   pub same : (MeetVerity run.said run.first run.count → ⊥) → new.cache ≡ old.cache
   pub uncounted : (MeetVerity run.said run.first run.count → ⊥) → new.restored ≡ old.restored
-  pub touches : AsksOnly run.leaves old.leaves new.leaves result
+  pub touches : AsksOnly (HealsNone c run) run.leaves old.leaves new.leaves result
   pub spent : ReadsAtMost run.most old.leaves new.leaves
 
 abbrev pub StepFrom : {D : Type 0} → (D → Device) → Configuration → Source → List ℕ → Backing D → Backing D → Result Unit IoFault → Type 0
@@ -128,7 +133,7 @@ GotAt state c lower first out old new answer = GetsBytes c lower first (length o
 pub record ReadsLeaf (c : Configuration) (leaf first n : ℕ) (old new : List Device) (result : Result Unit IoFault) (bytes : List ℕ) : Type 0 where
   pub got : (chains : List FoundRecord) → Gets (run_expected (place_of c (Leaf leaf)) chains first n) old new (buffer_answer result bytes)
   pub plain : IsPlain (said_at c (Leaf leaf)) first n old new result
-  pub touches : AsksOnly (leaves_of c (Leaf leaf)) old new result
+  pub touches : AsksOnly (Unit {0}) (leaves_of c (Leaf leaf)) old new result
 
 -- ---- of blocks
 

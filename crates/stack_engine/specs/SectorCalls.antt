@@ -14,7 +14,6 @@ use Rattle.stack_rules.specs.Names.{mapped}
 use Rattle.stack_rules.specs.Records.{Configuration}
 use Rattle.stack_rules.specs.Trees.{tree_of, block_sectors, round_count, zero_block}
 use Rattle.stack_meaning.specs.Blocks.{hash_sectors, hash_start, next_digest, is_ignored}
-use Rattle.stack_meaning.specs.declared.fault.Fault.{Fault}
 use Rattle.stack_meaning.specs.declared.fault.Fault.TheVariants as why
 use Rattle.stack_meaning.specs.declared.fault.IoFault.{IoFault}
 use Rattle.stack_meaning.specs.declared.fault.IoFault.TheVariants as io
@@ -32,7 +31,7 @@ use Rattle.stack_lines.specs.Runs.{IsRunAt}
 use Rattle.stack_lines.specs.Sources.{from_unit}
 use Rattle.stack_lines.specs.Walks.{IsBlockOfDigest}
 use Rattle.stack_lines.specs.Writing.{SomeEncrypt}
-use Rattle.stack_engine.specs.Healing.{IsSettled, healed_result, unhealed}
+use Rattle.stack_engine.specs.Healing.{IsHealed, IsSettled, healed_result, unhealed}
 use Rattle.stack_engine.specs.LeafCalls.{LeafCall, MakesCalls}
 use Rattle.stack_engine.specs.Restored.{Served, one_more, restored_after}
 use Rattle.verified_cache.specs.Cache.{CachedBlock}
@@ -205,10 +204,10 @@ pub data ReadCalls (c : Configuration) : ReadOf → List LeafCall → ℕ → �
       → ReadCalls c (data_of p (suc l) expected last next) (calls ++ later) from to answer
   way_stops : {from to : ℕ} {p : DataPlace} {l : ℕ} {expected : List ℕ} (last : List ℕ) (next : DataRead) {calls : List LeafCall} {fault : IoFault} → ReadCalls c (hash_of (expected_hash p l expected)) calls from to (Err fault) → ReadCalls c (data_of p (suc l) expected last next) calls from to (Err fault)
   way_full : {from : ℕ} (p : DataPlace) (l : ℕ) (expected last : List ℕ) (next : DataRead) → ReadCalls c (data_of p l expected last next) [] from from (Err io.NoMemory)
-  -- the one data block: zeros, if the line ignores it, or it is read; and if that ends in a fault of the lines, its spare is
+  -- the one data block: zeros, if the line ignores it, or it is read; and if that ends in a fault that is healed, its spare is read
   one_ignored : {from : ℕ} (p : DataPlace) (expected last : List ℕ) → is_ignored p.verity expected ≡ true → ReadCalls c (data_of p zero expected last one_block) [] from from (Ok (zero_block p.verity))
-  one_read : {from to : ℕ} {p : DataPlace} {expected : List ℕ} (last : List ℕ) {calls : List LeafCall} {answer : Result (List ℕ) IoFault} → is_ignored p.verity expected ≡ false → IfErr answer IsSettled → ReadCalls c (block_of (expected_data p expected)) calls from to answer → ReadCalls c (data_of p zero expected last one_block) calls from to answer
-  one_healed : {from mid to : ℕ} {p : DataPlace} {expected : List ℕ} (last : List ℕ) {calls later : List LeafCall} {fault : Fault} {spare : Result (List ℕ) IoFault} → is_ignored p.verity expected ≡ false → ReadCalls c (block_of (expected_data p expected)) calls from mid (Err (io.Stack fault)) → ReadCalls c (spare_of p expected) later mid to spare
+  one_read : {from to : ℕ} {p : DataPlace} {expected : List ℕ} (last : List ℕ) {calls : List LeafCall} {answer : Result (List ℕ) IoFault} → is_ignored p.verity expected ≡ false → IfErr answer (IsSettled p.verity.parity) → ReadCalls c (block_of (expected_data p expected)) calls from to answer → ReadCalls c (data_of p zero expected last one_block) calls from to answer
+  one_healed : {from mid to : ℕ} {p : DataPlace} {expected : List ℕ} (last : List ℕ) {calls later : List LeafCall} {fault : IoFault} {spare : Result (List ℕ) IoFault} → is_ignored p.verity expected ≡ false → IsHealed p.verity.parity fault → ReadCalls c (block_of (expected_data p expected)) calls from mid (Err fault) → ReadCalls c (spare_of p expected) later mid to spare
       → ReadCalls c (data_of p zero expected last one_block) (calls ++ later) from (restored_after spare to) (healed_result fault spare)
   -- whole data blocks, the next of which was read before: it is ignored, or has the digest, or differs and its spare is read, and
   -- those after it are read; or it differs, and its spare can't be read
@@ -217,7 +216,7 @@ pub data ReadCalls (c : Configuration) : ReadOf → List LeafCall → ℕ → �
   next_checked : {from to : ℕ} {p : DataPlace} {left : ℕ} {expected ahead : List ℕ} (block last : List ℕ) {calls : List LeafCall} {answer : Result (List ℕ) IoFault} → is_ignored p.verity expected ≡ false → IsBlockOfDigest (block_sectors p.verity) p.verity.salt expected block → ReadCalls c (blocks_of (next_place p) left ahead) calls from to answer
       → ReadCalls c (data_of p zero expected last (blocks_left (suc left) (block ++ ahead))) calls from to (bytes_before block answer)
   next_healed : {from mid to : ℕ} {p : DataPlace} {left : ℕ} {expected ahead spare : List ℕ} (block last : List ℕ) {calls later : List LeafCall} {answer : Result (List ℕ) IoFault} → is_ignored p.verity expected ≡ false → length block ≡ 512 * block_sectors p.verity → (digest p.verity.salt block ≡ expected → ⊥) → ReadCalls c (spare_of p expected) calls from mid (Ok spare) → ReadCalls c (blocks_of (next_place p) left ahead) later (one_more mid) to answer → ReadCalls c (data_of p zero expected last (blocks_left (suc left) (block ++ ahead))) (calls ++ later) from to (bytes_before spare answer)
-  next_differs : {from to : ℕ} {p : DataPlace} {expected : List ℕ} (left : ℕ) (block ahead last : List ℕ) {calls : List LeafCall} {vain : IoFault} → is_ignored p.verity expected ≡ false → length block ≡ 512 * block_sectors p.verity → (digest p.verity.salt block ≡ expected → ⊥) → ReadCalls c (spare_of p expected) calls from to (Err vain) → ReadCalls c (data_of p zero expected last (blocks_left left (block ++ ahead))) calls from to (Err (unhealed why.Mismatch vain))
+  next_differs : {from to : ℕ} {p : DataPlace} {expected : List ℕ} (left : ℕ) (block ahead last : List ℕ) {calls : List LeafCall} {vain : IoFault} → is_ignored p.verity expected ≡ false → length block ≡ 512 * block_sectors p.verity → (digest p.verity.salt block ≡ expected → ⊥) → ReadCalls c (spare_of p expected) calls from to (Err vain) → ReadCalls c (data_of p zero expected last (blocks_left left (block ++ ahead))) calls from to (Err (unhealed (io.Stack why.Mismatch) vain))
   -- it wasn't read before: it is read together with later ones
   together_read : {from mid to : ℕ} {p : DataPlace} {left many : ℕ} {expected last bytes : List ℕ} {calls later : List LeafCall} {answer : Result (List ℕ) IoFault} → is_ignored p.verity expected ≡ false → AreReadTogether p last left many → ReadCalls c (sectors_of (Below p.on_data (block_sectors p.verity * p.index)) (many * block_sectors p.verity)) calls from mid (Ok bytes)
       → ReadCalls c (data_of p zero expected last (blocks_left left bytes)) later mid to answer → ReadCalls c (data_of p zero expected last (blocks_left left [])) (calls ++ later) from to answer

@@ -9,12 +9,12 @@ use Rattle.stack_rules.specs.Names.{size}
 use Rattle.stack_rules.specs.Records.{Configuration}
 use Rattle.stack_rules.specs.TargetRules.{greatest}
 use Rattle.stack_rules.specs.Trees.{block_sectors, round_count}
-use Rattle.stack_meaning.specs.declared.fault.Fault.{Fault}
 use Rattle.stack_meaning.specs.declared.fault.IoFault.{IoFault}
+use Rattle.stack_meaning.specs.declared.fault.IoFault.TheVariants as io
 use Rattle.stack_meaning.specs.Outcomes.{mismatch, then_outcome}
 use Rattle.stack_meaning.specs.Places.{Expected}
 use Rattle.stack_meaning.specs.Spares.{added_block, round_block, round_parity, with_parity}
-use Rattle.stack_lines.specs.Walks.{DataBlock, block_in, block_leaves, sources_of, spare_expected}
+use Rattle.stack_lines.specs.Walks.{AgreesAt, DataBlock, block_in, block_leaves, sources_of, spare_expected}
 use Rattle.stack_engine.specs.declared.backing.Backing.{Backing}
 use Rattle.stack_engine.specs.declared.rows.JudgedBlock.{JudgedBlock}
 use Rattle.stack_engine.specs.declared.spare.LostBlock.{LostBlock}
@@ -45,6 +45,7 @@ other_wanted b q i sums = record {
   means = λ images. then_outcome (round_block b.verity q (sources_of b images) (b.index % round_count q) (b.index / round_count q) i) (λ block. Ok (added_block sums block));
   cost = if i == b.index / round_count q then 0 else block_sectors b.verity * sector_cost b;
   leaves = block_leaves b;
+  agrees = AgreesAt b;
 }
 
 -- sums, to which the parity of the round was added
@@ -56,6 +57,7 @@ stored_wanted b q sums = record {
   means = λ images. then_outcome (round_parity b.verity q (sources_of b images) (b.index % round_count q)) (λ parity. Ok (with_parity q.roots sums parity));
   cost = block_sectors b.verity * q.roots * sector_cost b;
   leaves = block_leaves b;
+  agrees = AgreesAt b;
 }
 
 -- the spare of a data block of a line
@@ -68,7 +70,7 @@ AddsTo does c p q i sums old new (Ok added) = LeadsTo does c (sums_of p q i sums
 AddsTo does c p q i sums old new (Err fault) = ReadsOn does c (sums_of p q i sums) old new (Err fault)
 
 -- A data block whose own read ended in that fault is healed: its spare, which is counted, and the calls that read it; or the fault.
-pub record HealsBy {D : Type 0} (state : D → Device) (does : D → Call → D → Type 0) (c : Configuration) (p : DataPlace) (lost : LostBlock) (fault : Fault) (old new : Backing D) (result : Result (Vec ℕ Global) IoFault) : Type 0 where
+pub record HealsBy {D : Type 0} (state : D → Device) (does : D → Call → D → Type 0) (c : Configuration) (p : DataPlace) (lost : LostBlock) (fault : IoFault) (old new : Backing D) (result : Result (Vec ℕ Global) IoFault) : Type 0 where
   pub spare : Result (Vec ℕ Global) IoFault
   pub is : result ≡ healed_result fault spare
   pub got : GetsBy state (spare_expected (λ block. block.items) (block_in c p.verity lost.index) lost.digest) old new spare
@@ -88,7 +90,7 @@ pub record HealsRead {D : Type 0} (state : D → Device) (does : D → Call → 
   pub used : judged.ignored ≡ false
   pub differs : judged.made ≡ judged.lost.digest → ⊥
   pub spare : Result (List ℕ) IoFault
-  pub is : answer ≡ healed_result mismatch spare
+  pub is : answer ≡ healed_result (io.Stack mismatch) spare
   pub got : GetsBy state (spare_wanted c p.verity judged.lost) old new spare
   pub read : Served D
   pub counted : served new ≡ after_spare spare read

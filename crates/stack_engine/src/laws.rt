@@ -1,4 +1,5 @@
 //! Laws of the definitions: each function's contract is the law, and its call gives it.
+ghost use Rattle.stack_engine.specs.Agreeing.{DisagreeingBlocksCollide, ImagesAgreeWithoutParity};
 ghost use Rattle.stack_engine.specs.DamagedData.{DamagedDataIsRead};
 ghost use Rattle.stack_engine.specs.Dirty.{ReadsKeepDirty, WritesMakeDirty};
 ghost use Rattle.stack_engine.specs.Unrestored.{NoneRestoredWithoutParity};
@@ -24,6 +25,17 @@ pub fn damaged_data_is_read()
 {
     formed_chains_are_good();
 }
+
+/// If no `verity` line of a configuration has parity, an exact read asks nothing of the images but that they are steady.
+pub fn images_agree_without_parity()
+    ensures { ImagesAgreeWithoutParity }
+{}
+
+/// If a block that parity restores is another one than the stored block and has its digest, the two, each after the salt, are two
+/// different inputs of one SHA-256 digest.
+pub fn disagreeing_blocks_collide()
+    ensures { DisagreeingBlocksCollide }
+{}
 
 /// If a data block isn't zeros and has the digest of a block of zeros, the two blocks, each after the salt, are two different
 /// inputs of one SHA-256 digest.

@@ -6,6 +6,7 @@ mod backing;
 mod buffer;
 mod counters;
 pub mod laws;
+mod leaf;
 mod path;
 mod read;
 mod rows;

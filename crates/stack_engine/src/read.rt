@@ -1,6 +1,6 @@
 //! Reads through the lines of a stack, down to its leaves.
-ghost use Rattle.std.specs.Prelude.{◌≡◌, ◌≤◌, ◌<◌, ◌+◌, ◌-◌, ◌*◌, ◌/◌, ◌%◌, length, map, take, get_or, All, OnOk, IfOk, IfErr, Some, Err, is_ok};
-ghost use Rattle.block_device.specs.Call.{DeviceDoes, Read};
+ghost use Rattle.std.specs.Prelude.{◌≡◌, ◌≤◌, ◌<◌, ◌+◌, ◌-◌, ◌*◌, ◌/◌, ◌%◌, length, map, take, get_or, All, OnOk, IfOk, IfErr, Some, Err};
+ghost use Rattle.block_device.specs.Call.{DeviceDoes};
 ghost use Rattle.tree_shape.specs.Shape.{levels};
 ghost use Rattle.dm_table.specs.declared.parity.Parity.{Parity};
 ghost use Rattle.stack_rules.specs.Trees.{tree_of};
@@ -9,24 +9,23 @@ ghost use Rattle.stack_lines.specs.declared.source.Source.TheVariants.{Below};
 ghost use Rattle.stack_meaning.specs.Reading.{buffer_answer};
 ghost use Rattle.stack_lines.specs.Extents.{LiesInsideLower};
 ghost use Rattle.stack_lines.specs.Touches.{leaves_of};
+ghost use Rattle.stack_engine.specs.Healing.{HealsFault};
 ghost use Rattle.stack_lines.specs.Walks.{HasDataBlock, block_in};
 ghost use Rattle.stack_lines.specs.Caches.{IsCached, IsPlaceOf};
 ghost use Rattle.verified_cache.specs.Cache.{CachedBlock};
-ghost use Rattle.stack_engine.specs.Stacks.{IsSound};
-ghost use Rattle.stack_engine.specs.Premises.{FitsIn};
-ghost use Rattle.stack_engine.specs.LeafCalls.{IsLeafCall};
 ghost use Rattle.stack_engine.specs.Backings.{leaves_in, IsBacking, Asks, StaysSound, did};
 ghost use Rattle.stack_engine.specs.SectorCalls.{block_of, hash_of, one_block, place_in, spare_of, sums_of, whole_data};
-ghost use Rattle.stack_engine.specs.ReadSteps.{CanFill, ReadsLeaf, StepFrom, StepAt, ReadsOn, GivesFrom, GivesAt, GivesAny, GivesData, GivesOnWay, WalksTo, GotAt, GetsBy, extent_wanted, data_wanted, way_wanted, ChainBy, WalkedBy, ReadsWay, expected_in, block_answer, content_answer};
+ghost use Rattle.stack_engine.specs.ReadSteps.{CanFill, StepFrom, StepAt, ReadsOn, GivesFrom, GivesAt, GivesAny, GivesData, GivesOnWay, WalksTo, GotAt, GetsBy, extent_wanted, data_wanted, way_wanted, ChainBy, WalkedBy, ReadsWay, expected_in, block_answer, content_answer};
 ghost use Rattle.stack_engine.specs.Spares.{AddsTo, HealsBy, SettlesBy, other_wanted, spare_wanted, stored_wanted};
 ghost use Rattle.stack_engine.specs.Keeping.{ReadsAs, ReadsSourceAs};
 
 use crate::backing::Backing;
 use crate::buffer::{fill_zeros, zero_block, zero_sectors};
+use crate::leaf::read_leaf;
 use crate::path::{Chains, PathBlock, WantedBlock, put, stands};
 use crate::rows::{JudgedBlock, NextBlock, judge, read_as_far, row_len, settle};
 use crate::spare::{
-    LostBlock, add_block, add_stored, one_more, other_extent, stored_extent, unhealed,
+    LostBlock, add_block, add_stored, can_heal, one_more, other_extent, stored_extent, unhealed,
 };
 use allocation::push;
 use block_device::BlockDev;
@@ -46,26 +45,6 @@ use verified_cache::Key;
 const MOST_BLOCK: usize = 4096;
 
 const MOST_STORED: usize = 24 * MOST_BLOCK;
-
-/// The sectors of a leaf, by one call of its device.
-fn read_leaf<D: BlockDev>(
-    config: &Config,
-    devices: &mut [D],
-    leaf: u32,
-    first: u64,
-    out: &mut [u8],
-) -> Result<(), IoFault>
-    requires sound { IsSound config.now (map D.state devices.old) }
-    requires fits { FitsIn config.now (Below (Lower.Leaf leaf) first) out.old }
-    ensures reads { ReadsLeaf config.now leaf first (length out.old / 512) (map D.state devices.old) (map D.state devices.new) result out.new }
-    ensures call { IsLeafCall (DeviceDoes D.state D.does) leaf devices.old (Read first out.new (is_ok result)) devices.new }
-    ensures err { IfErr result (λ fault. fault ≡ IoFault.Device (leaf + 1)) }
-{
-    match devices[leaf as usize].read(first, out) {
-        Ok(()) => Ok(()),
-        Err(_) => Err(IoFault::Device(leaf + 1)),
-    }
-}
 
 /// The sectors of a leaf or a mapped device, from `first` on. The chains that are found are kept or dropped.
 #[cycle(read)]
@@ -313,7 +292,7 @@ fn read_beneath<D: BlockDev>(
     requires inside { first + length out.old / 512 ≤ size config.now lower }
     ensures reads { GotAt D.state config.now lower first out.old backing.old backing.new (buffer_answer result out.new) }
     ensures cached { StaysSound D.state config.now backing.old backing.new }
-    ensures touches { Asks D.state (leaves_of config.now lower) backing.old backing.new result }
+    ensures touches { Asks D.state config.now (leaves_of config.now lower) backing.old backing.new result }
     ensures given { GivesAny (DeviceDoes D.state D.does) config.now (lower, first) out.old backing.old backing.new (buffer_answer result out.new) }
 {
     if out.is_empty() {
@@ -343,7 +322,7 @@ fn walk<D: BlockDev>(
     requires block { HasDataBlock config.now verity.now tree.now index }
     ensures reads { ChainBy D.state config.now verity.now index backing.old backing.new result }
     ensures cached { StaysSound D.state config.now backing.old backing.new }
-    ensures touches { Asks D.state (leaves_of config.now (mapped tree.now.device.0)) backing.old backing.new result }
+    ensures touches { Asks D.state config.now (leaves_of config.now (mapped tree.now.device.0)) backing.old backing.new result }
     ensures given { ReadsOn (DeviceDoes D.state D.does) config.now (whole_data (place_in verity.now tree.now index) one_block) backing.old backing.new (content_answer result) }
 {
     let mut expected = verity.root;
@@ -388,7 +367,7 @@ fn read_data<D: BlockDev>(
     requires block { HasDataBlock config.now verity.now tree.now index }
     ensures reads { GetsBy D.state (data_wanted config.now verity.now index expected.now) backing.old backing.new result }
     ensures cached { StaysSound D.state config.now backing.old backing.new }
-    ensures touches { Asks D.state (leaves_of config.now (mapped tree.now.device.0)) backing.old backing.new result }
+    ensures touches { Asks D.state config.now (leaves_of config.now (mapped tree.now.device.0)) backing.old backing.new result }
     ensures given { GivesData (DeviceDoes D.state D.does) config.now (place_in verity.now tree.now index) expected.now backing.old backing.new (block_answer result) }
 {
     if is_ignored(config, verity, tree, expected) {
@@ -404,9 +383,12 @@ fn read_data<D: BlockDev>(
     };
     match read_checked(config, backing, extent, &verity.salt, expected) {
         Ok(block) => Ok(block),
-        Err(IoFault::Stack(fault)) => heal(config, backing, verity, tree, &lost, fault),
-        Err(IoFault::Device(leaf)) => Err(IoFault::Device(leaf)),
-        Err(IoFault::NoMemory) => Err(IoFault::NoMemory),
+        Err(own) => {
+            if can_heal(verity, own) {
+                return heal(config, backing, verity, tree, &lost, own);
+            }
+            Err(own)
+        }
     }
 }
 
@@ -418,13 +400,14 @@ fn heal<D: BlockDev>(
     verity: &Verity,
     tree: &Tree,
     lost: &LostBlock,
-    fault: Fault,
+    fault: IoFault,
 ) -> Result<Vec<u8>, IoFault>
     requires stack { IsBacking D.state config.now backing.old }
     requires block { HasDataBlock config.now verity.now tree.now lost.now.index }
+    requires fault { HealsFault verity.now.parity (leaves_of config.now (mapped tree.now.device.0)) fault }
     ensures reads { HealsBy D.state (DeviceDoes D.state D.does) config.now (place_in verity.now tree.now lost.now.index) lost.now fault backing.old backing.new result }
     ensures cached { StaysSound D.state config.now backing.old backing.new }
-    ensures touches { Asks D.state (leaves_of config.now (mapped tree.now.device.0)) backing.old backing.new result }
+    ensures touches { Asks D.state config.now (leaves_of config.now (mapped tree.now.device.0)) backing.old backing.new result }
 {
     let mut healed = match zero_block(backing.alloc, verity.data_block) {
         Ok(block) => block,
@@ -455,7 +438,7 @@ fn settle_block<D: BlockDev>(
     requires size { length block.old ≡ verity.now.data_block }
     ensures reads { SettlesBy D.state (DeviceDoes D.state D.does) config.now (place_in verity.now tree.now one.now.lost.index) one.now block.old backing.old backing.new (buffer_answer result block.new) }
     ensures cached { StaysSound D.state config.now backing.old backing.new }
-    ensures touches { Asks D.state (leaves_of config.now (mapped tree.now.device.0)) backing.old backing.new result }
+    ensures touches { Asks D.state config.now (leaves_of config.now (mapped tree.now.device.0)) backing.old backing.new result }
 {
     let lost = &one.lost;
     if settle(one.ignored, &one.made, &lost.digest, block) {
@@ -466,7 +449,7 @@ fn settle_block<D: BlockDev>(
             backing.restored = one_more(backing.restored);
             Ok(())
         }
-        Err(vain) => Err(unhealed(Fault::Mismatch, vain)),
+        Err(vain) => Err(unhealed(IoFault::Stack(Fault::Mismatch), vain)),
     }
 }
 
@@ -485,7 +468,7 @@ fn add_other<D: BlockDev>(
     requires size { length sums.old ≡ verity.now.data_block }
     ensures reads { (q : Parity) → verity.now.parity ≡ Some q → GetsBy D.state (other_wanted (block_in config.now verity.now at.0) q at.1 sums.old) backing.old backing.new (buffer_answer result sums.new) }
     ensures cached { StaysSound D.state config.now backing.old backing.new }
-    ensures touches { Asks D.state (leaves_of config.now (mapped tree.now.device.0)) backing.old backing.new result }
+    ensures touches { Asks D.state config.now (leaves_of config.now (mapped tree.now.device.0)) backing.old backing.new result }
     ensures given { (q : Parity) → verity.now.parity ≡ Some q → at.1 < 255 - q.roots → AddsTo (DeviceDoes D.state D.does) config.now (place_in verity.now tree.now at.0) q at.1 sums.old backing.old backing.new (buffer_answer result sums.new) }
 {
     match other_extent(config, verity, tree, at.0, at.1) {
@@ -520,7 +503,7 @@ fn add_parity<D: BlockDev>(
     requires size { length sums.old ≡ verity.now.data_block }
     ensures reads { (q : Parity) → verity.now.parity ≡ Some q → GetsBy D.state (stored_wanted (block_in config.now verity.now index) q sums.old) backing.old backing.new (buffer_answer result sums.new) }
     ensures cached { StaysSound D.state config.now backing.old backing.new }
-    ensures touches { Asks D.state (leaves_of config.now (mapped tree.now.device.0)) backing.old backing.new result }
+    ensures touches { Asks D.state config.now (leaves_of config.now (mapped tree.now.device.0)) backing.old backing.new result }
     ensures given { (q : Parity) → verity.now.parity ≡ Some q → ReadsOn (DeviceDoes D.state D.does) config.now (sums_of (place_in verity.now tree.now index) q (255 - q.roots) sums.old) backing.old backing.new (buffer_answer result sums.new) }
 {
     match stored_extent(config, verity, tree, index) {
@@ -555,7 +538,7 @@ fn mend<D: BlockDev>(
     requires size { length out.old ≡ verity.now.data_block }
     ensures reads { GetsBy D.state (spare_wanted config.now verity.now lost.now) backing.old backing.new (buffer_answer result out.new) }
     ensures cached { StaysSound D.state config.now backing.old backing.new }
-    ensures touches { Asks D.state (leaves_of config.now (mapped tree.now.device.0)) backing.old backing.new result }
+    ensures touches { Asks D.state config.now (leaves_of config.now (mapped tree.now.device.0)) backing.old backing.new result }
     ensures given { ReadsOn (DeviceDoes D.state D.does) config.now (spare_of (place_in verity.now tree.now lost.now.index) lost.now.digest) backing.old backing.new (buffer_answer result out.new) }
 {
     let index = lost.index;
@@ -595,7 +578,7 @@ fn hash_block<D: BlockDev>(
     requires key { IsPlaceOf config.now salt.now key extent }
     ensures reads { GetsBy D.state (extent_wanted config.now extent salt.now expected.now) backing.old backing.new result }
     ensures cached { StaysSound D.state config.now backing.old backing.new }
-    ensures touches { Asks D.state (leaves_of config.now extent.lower) backing.old backing.new result }
+    ensures touches { Asks D.state config.now (leaves_of config.now extent.lower) backing.old backing.new result }
     ensures given { ReadsOn (DeviceDoes D.state D.does) config.now (hash_of (expected_in extent salt.now expected.now)) backing.old backing.new (block_answer result) }
 {
     match backing.cache.copy_of(backing.alloc, key, expected) {
@@ -635,7 +618,7 @@ fn path_block<D: BlockDev>(
     ensures above { take wanted.now.at path.new.items ≡ take wanted.now.at path.old.items }
     ensures held { All (IsCached config.now (leaves_in D.state backing.new)) path.new.items }
     ensures cached { StaysSound D.state config.now backing.old backing.new }
-    ensures touches { Asks D.state (leaves_of config.now tree.now.hash) backing.old backing.new result }
+    ensures touches { Asks D.state config.now (leaves_of config.now tree.now.hash) backing.old backing.new result }
     ensures given { GivesOnWay (DeviceDoes D.state D.does) config.now (place_in verity.now tree.now wanted.now.block) wanted.now path.new.items backing.old backing.new result }
 {
     let at = wanted.at;
@@ -672,7 +655,7 @@ fn walk_path<D: BlockDev>(
     ensures moved { ReadsWay D.state config.now verity.now index backing.old backing.new }
     ensures held { All (IsCached config.now (leaves_in D.state backing.new)) path.new.items }
     ensures cached { StaysSound D.state config.now backing.old backing.new }
-    ensures touches { Asks D.state (leaves_of config.now tree.now.hash) backing.old backing.new result }
+    ensures touches { Asks D.state config.now (leaves_of config.now tree.now.hash) backing.old backing.new result }
     ensures given { WalksTo (DeviceDoes D.state D.does) config.now (place_in verity.now tree.now index) path.new.items backing.old backing.new result }
 {
     let mut digest = verity.root;
@@ -711,7 +694,7 @@ fn read_checked<D: BlockDev>(
     requires lies { LiesInsideLower config.now extent }
     ensures reads { GetsBy D.state (extent_wanted config.now extent salt.now expected.now) backing.old backing.new result }
     ensures cached { StaysSound D.state config.now backing.old backing.new }
-    ensures touches { Asks D.state (leaves_of config.now extent.lower) backing.old backing.new result }
+    ensures touches { Asks D.state config.now (leaves_of config.now extent.lower) backing.old backing.new result }
     ensures given { ReadsOn (DeviceDoes D.state D.does) config.now (block_of (expected_in extent salt.now expected.now)) backing.old backing.new (block_answer result) }
 {
     let mut block = match zero_sectors(backing.alloc, extent.sectors) {

@@ -7,7 +7,7 @@ ghost use Rattle.stack_meaning.specs.Spares.{added_block, with_parity};
 ghost use Rattle.stack_lines.specs.Extents.{LiesInsideLower};
 ghost use Rattle.stack_lines.specs.Walks.{HasDataBlock};
 ghost use Rattle.stack_engine.specs.SectorCalls.{other_by, other_number, place_in};
-ghost use Rattle.stack_engine.specs.Healing.{unhealed};
+ghost use Rattle.stack_engine.specs.Healing.{can_heal, first_device, unhealed};
 ghost use Rattle.stack_engine.specs.Restored.{one_more};
 ghost use Rattle.stack_engine.specs.Spares.{IsStoredAt};
 
@@ -15,7 +15,7 @@ use dm_table::{Parity, Verity};
 use reed_solomon::add_parity;
 use stack_config::{Config, Lower};
 use stack_lines::tree::{Extent, Tree, covered_extent, parity_start};
-use stack_meaning::{Fault, IoFault};
+use stack_meaning::IoFault;
 use stack_rules::round_count;
 use tree_shape::Digest;
 
@@ -34,15 +34,38 @@ pub(crate) struct Stored {
     pub(crate) sectors: u32,
 }
 
-/// The fault of a data block whose own read ended in a fault, and the read of its spare in another one: its own fault, unless a
-/// device or an allocation failed.
-pub(crate) fn unhealed(own: Fault, vain: IoFault) -> IoFault
+/// The fault of the block if that is a device's, else that of the device that failed as the spare was read.
+fn first_device(own: IoFault, failed: u32) -> IoFault
+    ensures { result ≡ first_device own failed }
+{
+    match own {
+        IoFault::Stack(_) => IoFault::Device(failed),
+        IoFault::Device(leaf) => IoFault::Device(leaf),
+        IoFault::NoMemory => IoFault::Device(failed),
+    }
+}
+
+/// The fault of a data block whose own read ended in a fault, and the read of its spare in another one: its own fault, unless an
+/// allocation failed, or a device did for the spare alone.
+pub(crate) fn unhealed(own: IoFault, vain: IoFault) -> IoFault
     ensures { result ≡ unhealed own vain }
 {
     match vain {
-        IoFault::Stack(_) => IoFault::Stack(own),
-        IoFault::Device(failed) => IoFault::Device(failed),
+        IoFault::Stack(_) => own,
+        IoFault::Device(failed) => first_device(own, failed),
         IoFault::NoMemory => IoFault::NoMemory,
+    }
+}
+
+/// Whether the spare of a data block is read after its own read ended in that fault: in one of the lines, or in a device's if the line
+/// has parity.
+pub(crate) fn can_heal(verity: &Verity, own: IoFault) -> bool
+    ensures { result ≡ can_heal verity.now.parity own }
+{
+    match own {
+        IoFault::Stack(_) => true,
+        IoFault::Device(_) => verity.parity.is_some(),
+        IoFault::NoMemory => false,
     }
 }
 

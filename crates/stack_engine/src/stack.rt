@@ -15,7 +15,7 @@ ghost use Rattle.stack_engine.specs.Stacks.{StackRecord, IsSound};
 ghost use Rattle.stack_meaning.specs.Reading.{buffer_answer};
 ghost use Rattle.stack_engine.specs.Syncs.{FailsToSync, MakesSyncs, NeverFail};
 ghost use Rattle.stack_lines.specs.Budgets.{ReadsAtMost};
-ghost use Rattle.stack_engine.specs.Pieces.{AnyPiece, SteadyPiece, stack_over, AreSteadyBeneath, MeetsVerity, piece_budget, PieceGives, PieceStops, ReadRestores, answer_bytes};
+ghost use Rattle.stack_engine.specs.Pieces.{AnyPiece, SteadyPiece, stack_over, AreSteadyBeneath, IsCertainPiece, MeetsVerity, piece_budget, PieceGives, PieceStops, ReadRestores, answer_bytes};
 ghost use Rattle.stack_engine.specs.WritePieces.{ArePiece, AnyWrite, SteadyWrite, MeetsCrypt, UncutPiece, PieceWrote, PieceNeeded, PieceHands};
 
 use crate::answer::Answer;
@@ -106,7 +106,7 @@ impl<D: BlockDev> Stack<D> {
         requires most { n ≤ 128 }
         requires inside { first + n ≤ size self.old.config (mapped d.0) }
         ensures any { AnyPiece self.old d.0 first n result self.new }
-        ensures steady { AreSteadyBeneath self.old d.0 → SteadyPiece self.old d.0 first n result self.new }
+        ensures steady { IsCertainPiece self.old d.0 first n → SteadyPiece self.old d.0 first n result self.new }
         ensures stops { PieceStops self.old d.0 first n result self.new }
         ensures spent { ReadsAtMost (piece_budget self.old d.0 first n) self.old.leaves self.new.leaves }
         ensures given { PieceGives D.state D.does self.old (d.0, first) n (answer_bytes result) self.new }
@@ -142,7 +142,7 @@ impl<D: BlockDev> Stack<D> {
         requires piece { ArePiece out.old }
         requires inside { first + length out.old / 512 ≤ size self.old.config (mapped d.0) }
         ensures any { AnyBytes self.old d.0 first (length out.old / 512) (buffer_answer result out.new) self.new }
-        ensures steady { AreSteadyBeneath self.old d.0 → SteadyBytes self.old d.0 first (length out.old / 512) (buffer_answer result out.new) self.new }
+        ensures steady { IsCertainPiece self.old d.0 first (length out.old / 512) → SteadyBytes self.old d.0 first (length out.old / 512) (buffer_answer result out.new) self.new }
         ensures memory { result ≡ Err IoFault.NoMemory → MeetsVerity self.old d.0 first (length out.old / 512) }
         ensures stops { PieceStops self.old d.0 first (length out.old / 512) result self.new }
         ensures spent { ReadsAtMost (piece_budget self.old d.0 first (length out.old / 512)) self.old.leaves self.new.leaves }

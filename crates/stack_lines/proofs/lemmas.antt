@@ -1,5 +1,6 @@
 -- What callers may cite.
 pub mod AskLemmas
+pub mod BlockAgreementLemmas
 pub mod BudgetLemmas
 pub mod EncryptLemmas
 pub mod ForgetLemmas
@@ -12,6 +13,7 @@ pub mod SourceLemmas
 pub mod StandingLemmas
 pub mod StopLemmas
 pub mod TouchLemmas
+pub mod UnitFirstLemmas
 pub mod UnitLineLemmas
 pub mod UnitPutLemmas
 pub mod UnitReadLemmas

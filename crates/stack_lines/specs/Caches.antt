@@ -11,19 +11,20 @@ use Rattle.stack_lines.specs.declared.tree.Extent.{Extent}
 use Rattle.stack_lines.specs.declared.leaf_set.LeafSet.{LeafSet}
 use Rattle.stack_lines.specs.Extents.{LiesInsideLower}
 use Rattle.stack_lines.specs.Standing.{AreLeafSets, CoversBlocks, name_stands_on}
+use Rattle.stack_meaning.specs.Agreement.{AgreesOn}
 use Rattle.stack_meaning.specs.Outcomes.{span}
 use Rattle.stack_meaning.specs.Blocks.{hash_sectors, hash_place}
 use Rattle.stack_meaning.specs.Leaves.{steady_images, AreSteady}
 use Rattle.stack_meaning.specs.Meaning.{said_by_name}
 use Rattle.stack_lines.specs.Walks.{HasVerity, IsBlockOfDigest}
 
--- A block that is kept for a verity line has the digest that it is kept under; and where the leaves beneath the hash
--- device are steady it is what that one's span gives now at its place.
+-- A block that is kept for a verity line has the digest that it is kept under; and if the leaves beneath the hash device are steady,
+-- and agree with what parity restores on them, it is what that device's span gives now at its place.
 pub record IsCached (c : Configuration) (leaves : List Device) (b : CachedBlock) : Type 0 where
   pub verity : Verity
   pub line : HasVerity c b.key.device b.key.line verity
   pub block : IsBlockOfDigest (hash_sectors verity) verity.salt b.digest b.bytes
-  pub exact : AreSteady (λ i. name_stands_on c i verity.hash) leaves → span (λ s. (said_by_name c verity.hash s).means (steady_images leaves)) (hash_place verity b.key.level b.key.block) (hash_sectors verity) ≡ Ok b.bytes
+  pub exact : AreSteady (λ i. name_stands_on c i verity.hash) leaves → AgreesOn c (λ i. name_stands_on c i verity.hash) (steady_images leaves) → span (λ s. (said_by_name c verity.hash s).means (steady_images leaves)) (hash_place verity b.key.level b.key.block) (hash_sectors verity) ≡ Ok b.bytes
 
 -- The blocks that are kept; the leaves beneath each mapped device; and the leaves beneath the hash devices of
 -- the kept blocks' lines, and maybe others.

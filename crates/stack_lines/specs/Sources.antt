@@ -23,6 +23,7 @@ use Rattle.stack_meaning.specs.Units.{units_of, per_unit, unit_first}
 use Rattle.stack_meaning.specs.Puts.{together}
 use Rattle.stack_meaning.specs.Beneath.{beneath, HandsOn}
 use Rattle.stack_meaning.specs.Meaning.{Said, zero_said, error_said, crypt_said, line_said, said_at, said_by_name}
+use Rattle.stack_meaning.specs.Agreement.{AgreesOn}
 use Rattle.stack_meaning.specs.Places.{Place, LeafRead}
 use Rattle.stack_lines.specs.Touches.{source_leaves}
 use Rattle.stack_meaning.specs.Reading.{Finds}
@@ -163,7 +164,7 @@ source_cost c (Block x) = read_cost c (mapped x.device.0)
 source_cost c (Blocks x) = read_cost c (mapped x.device.0)
 
 abbrev pub source_place : Configuration → Source → Place
-source_place c source = record { said = source_said c source; cost = source_cost c source; leaves = source_leaves c source }
+source_place c source = record { said = source_said c source; cost = source_cost c source; leaves = source_leaves c source; agrees = AgreesOn c (source_leaves c source) }
 
 -- how deep the devices are, for the measure of the recursion
 abbrev pub source_depth : Configuration → Source → ℕ

@@ -46,11 +46,11 @@ failures_behind (Err fault) failures = failures_by fault failures
 abbrev pub EndsAtFailure : {A : Type 0} → List Device → List Device → Result A IoFault → Type 0
 EndsAtFailure old new result = failures_of new ≡ failures_behind result (failures_of old)
 
--- It ends there, and accesses only these leaves.
-pub record AsksOnly {A : Type 0} (these : ℕ → Bool) (old new : List Device) (result : Result A IoFault) : Type 0 where
+-- It ends there, unless a block that can't be read may be restored, and accesses only these leaves.
+pub record AsksOnly {A : Type 0} (Unhealed : Type 0) (these : ℕ → Bool) (old new : List Device) (result : Result A IoFault) : Type 0 where
   pub leaf : (i : ℕ) (d : Device) → these i ≡ false → slice_index_or new i d ≡ slice_index_or old i d
   pub fault : IfErr result (NamesOneOf these)
-  pub ends : EndsAtFailure old new result
+  pub ends : Unhealed → EndsAtFailure old new result
 
 -- ---- which leaves there are
 

@@ -5,6 +5,7 @@ use Rattle.hash_tree.specs.Chain.{ChainRecord, HangsFrom, IsGood}
 use Rattle.tree_shape.specs.Digests.{digest}
 use Rattle.tree_shape.specs.Shape.{levels}
 use Rattle.block_device.specs.Device.{Device}
+use Rattle.dm_table.specs.declared.parity.Parity.{Parity}
 use Rattle.dm_table.specs.declared.table.Target.TheVariants.{Verity as verity_target}
 use Rattle.dm_table.specs.declared.verity.Verity.{Verity}
 use Rattle.stack_rules.specs.Records.{Configuration}
@@ -16,15 +17,16 @@ use Rattle.stack_meaning.specs.declared.fault.IoFault.{IoFault}
 use Rattle.stack_lines.specs.declared.tree.Tree.{Tree}
 use Rattle.stack_meaning.specs.Sectors.{SomeOf}
 use Rattle.stack_meaning.specs.declared.fault.Fault.{Fault}
+use Rattle.stack_meaning.specs.Agreement.{AgreesOn, BlockAgrees}
 use Rattle.stack_meaning.specs.Beneath.{below}
 use Rattle.stack_meaning.specs.Outcomes.{Outcome, mismatch, Images}
 use Rattle.stack_meaning.specs.Spares.{BlockSources, data_spare}
 use Rattle.stack_meaning.specs.targets.Verity.{sources_over}
 use Rattle.stack_meaning.specs.Blocks.{hash_sectors, checked_span, data_block_at, block_below, verified_block, BlockMeets}
-use Rattle.stack_meaning.specs.Leaves.{steady_images, AreSteady, AreRead}
+use Rattle.stack_meaning.specs.Leaves.{steady_images, AreRead}
 use Rattle.stack_meaning.specs.Meaning.{Said, none_said, said_by_name}
 use Rattle.stack_meaning.specs.Places.{Place, Expected}
-use Rattle.stack_meaning.specs.Reading.{Gets}
+use Rattle.stack_meaning.specs.Reading.{Gets, IsCertain}
 use Rattle.stack_lines.specs.Standing.{name_stands_on}
 use Rattle.stack_lines.specs.Sources.{parity_lower}
 pub use Rattle.stack_lines.specs.Sources.{HasVerity}
@@ -63,6 +65,7 @@ checked_expected bytes_of place first n salt expected = record {
   means = λ images. checked_span (λ s. (place.said s).means images) first n salt expected;
   cost = n * place.cost;
   leaves = place.leaves;
+  agrees = place.agrees;
 }
 
 -- ---- a data block
@@ -77,7 +80,7 @@ pub record DataBlock : Type 1 where
 
 -- what a name means, as a place
 abbrev pub place_named : Configuration → List ℕ → Place
-place_named c name = record { said = said_by_name c name; cost = by_name c 0 (read_cost c) name; leaves = λ i. name_stands_on c i name }
+place_named c name = record { said = said_by_name c name; cost = by_name c 0 (read_cost c) name; leaves = λ i. name_stands_on c i name; agrees = AgreesOn c (λ i. name_stands_on c i name) }
 
 -- what the parity of a line means, as a place; without parity it has no leaves
 abbrev pub parity_place : Configuration → Verity → Place
@@ -85,6 +88,7 @@ parity_place c v = record {
   said = below none_said (said_by_name c) (verity_target v) 2;
   cost = option_map_or (λ p. by_name c 0 (read_cost c) p.device) v.parity 0;
   leaves = λ i. option_map_or (λ p. name_stands_on c i p.device) v.parity false;
+  agrees = AgreesOn c (λ i. option_map_or (λ p. name_stands_on c i p.device) v.parity false);
 }
 
 abbrev pub block_in : Configuration → Verity → ℕ → DataBlock
@@ -104,6 +108,13 @@ sources_of b images = sources_over (base_said b) images
 abbrev pub block_leaves : DataBlock → ℕ → Bool
 block_leaves b i = b.on_data.leaves i || (b.on_hash.leaves i || b.on_parity.leaves i)
 
+-- the images that its three devices are on agree, and so does the block with what parity restores in its place
+pub record AgreesAt (b : DataBlock) (images : Images) : Type 0 where
+  pub on_data : b.on_data.agrees images
+  pub on_hash : b.on_hash.agrees images
+  pub on_parity : b.on_parity.agrees images
+  pub own : (p : Parity) → b.verity.parity ≡ Some p → BlockAgrees b.verity p (sources_of b images) b.index
+
 -- the most leaf sectors that are read for a spare: 0 without parity
 abbrev pub spare_cost : DataBlock → ℕ
 spare_cost b = mend_cost b.verity b.verity.parity (b.on_data.cost ∷ b.on_hash.cost ∷ b.on_parity.cost ∷ [])
@@ -121,6 +132,7 @@ spare_expected bytes_of b expected = record {
   means = λ images. data_spare b.verity (sources_of b images) b.verity.parity b.index expected;
   cost = spare_cost b;
   leaves = block_leaves b;
+  agrees = AgreesAt b;
 }
 
 -- of itself or its spare, if that digest is expected of it
@@ -132,6 +144,7 @@ data_expected bytes_of b expected = record {
   means = λ images. data_block_at b.verity (sources_of b images) b.index expected;
   cost = block_sectors b.verity * b.on_data.cost + spare_cost b;
   leaves = block_leaves b;
+  agrees = AgreesAt b;
 }
 
 -- of its chain
@@ -143,6 +156,7 @@ chain_expected b = record {
   means = λ images. verified_block b.verity (sources_of b images) b.index;
   cost = block_sectors b.verity * b.on_data.cost + spare_cost b + path_sectors b.verity * b.on_hash.cost;
   leaves = block_leaves b;
+  agrees = AgreesAt b;
 }
 
 abbrev pub GetsChain : DataBlock → List Device → List Device → Result ChainRecord IoFault → Type 0
@@ -154,4 +168,4 @@ pub record IsWalked (b : DataBlock) (l : ℕ) (expected : List ℕ) (path : List
   pub moved : AreRead old (length path * (hash_sectors b.verity * b.on_hash.cost)) new
   pub hangs : (rest : List (List ℕ)) (content : List ℕ) → length rest ≡ l → HangsFrom (tree_of b.verity) b.verity.salt b.index expected rest content
       → HangsFrom (tree_of b.verity) b.verity.salt b.index b.verity.root (path ++ rest) content
-  pub exact : AreSteady (chain_expected b).leaves old → (chain_expected b).means (steady_images old) ≡ means_below b (steady_images old) l expected
+  pub exact : IsCertain (chain_expected b) old → (chain_expected b).means (steady_images old) ≡ means_below b (steady_images old) l expected

@@ -46,6 +46,10 @@ fn go_at_once(
         return false;
     }
     let sectors = u64::from(part.verity.data_block / 512);
+    // One block alone is restored by parity even if a device can't read it.
+    if count <= sectors {
+        return false;
+    }
     if !are_before(found, part.device.0, part.line, part.first / sectors) {
         return false;
     }

@@ -1,4 +1,5 @@
 -- What callers may cite.
+pub mod AgreementLemmas
 pub mod BaseLemmas
 pub mod BlockSizeLemmas
 pub mod ChangeLemmas

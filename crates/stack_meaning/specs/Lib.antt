@@ -20,6 +20,7 @@ pub mod May
 pub mod Changes
 pub mod Stops
 pub mod Kept
+pub mod Agreement
 pub mod Places
 pub mod Reading
 pub mod IoFaults

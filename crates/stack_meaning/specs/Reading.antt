@@ -34,11 +34,17 @@ Answers bytes_of meaning (Err (io.Stack fault)) = meaning ≡ Err fault
 Answers bytes_of meaning (Err (io.Device i)) = Unit {0}
 Answers bytes_of meaning (Err io.NoMemory) = Unit {0}
 
+-- the leaves below are steady; and if a `verity` line may be met, no block that parity restores is another one than the stored
+-- block
+pub record IsCertain {A : Type 0} (wanted : Expected A) (leaves : List Device) : Type 0 where
+  pub steady : AreSteady wanted.leaves leaves
+  pub agrees : wanted.faults mismatch → wanted.agrees (steady_images leaves)
+
 -- the effect of a call on the leaves, and its result
 pub record Gets {A : Type 0} (wanted : Expected A) (old new : List Device) (result : Result A IoFault) : Type 0 where
   pub moved : AreRead old wanted.cost new
   pub may : Ends wanted.is wanted.faults old new result
-  pub exact : AreSteady wanted.leaves old → Answers wanted.bytes_of (wanted.means (steady_images old)) result
+  pub exact : IsCertain wanted old → Answers wanted.bytes_of (wanted.means (steady_images old)) result
 
 -- the bytes of the buffer that was filled, or the fault
 abbrev pub buffer_answer : Result Unit IoFault → List ℕ → Result (List ℕ) IoFault

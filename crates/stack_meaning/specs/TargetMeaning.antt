@@ -12,8 +12,8 @@ pub record OwnMeaning : Type 1 where
   pub said : (ℕ → ℕ → Said) → ℕ → ℕ → ℕ → Said
   -- the effect of writing sectors from s on that are written together
   pub put : (ℕ → ℕ → Said) → (ℕ → ℕ → Putting) → ℕ → Putting
-  -- what holds for a chain that belongs to the line, given the leaves below the line
-  pub keeps : (ℕ → ℕ → Said) → (ℕ → Bool) → List Device → ChainRecord → Type 0
+  -- what holds for a chain that belongs to the line, given when the leaves below the line determine its content
+  pub keeps : (ℕ → ℕ → Said) → (List Device → Type 0) → List Device → ChainRecord → Type 0
 
 -- each sector is passed through to the lower one, or has its own meaning
 pub data Meant : Type 1 where
@@ -34,9 +34,9 @@ abbrev pub put_as : Meant → Putting → (ℕ → ℕ → Said) → (ℕ → �
 put_as handed beneath reads puts s sectors images = beneath sectors images
 put_as (own m) beneath reads puts s sectors images = m.put reads puts s sectors images
 
-abbrev pub keeps_as : Meant → (ℕ → ℕ → Said) → (ℕ → Bool) → List Device → ChainRecord → Type 0
-keeps_as handed below these leaves chain = ⊥
-keeps_as (own m) below these leaves chain = m.keeps below these leaves chain
+abbrev pub keeps_as : Meant → (ℕ → ℕ → Said) → (List Device → Type 0) → List Device → ChainRecord → Type 0
+keeps_as handed below certain leaves chain = ⊥
+keeps_as (own m) below certain leaves chain = m.keeps below certain leaves chain
 
 abbrev pub IsHanded : Meant → Type 0
 IsHanded handed = Unit {0}

@@ -6,7 +6,7 @@ use Rattle.rescue_map.specs.Aheads.{marks_ahead}
 use Rattle.rescue_map.specs.declared.ahead.Ahead.{Ahead}
 use Rattle.rescue_map.specs.declared.map.Run.{Run}
 use Rattle.rescue_map.specs.Maps.{marks}
-use Rattle.stack_recovery.specs.Recoveries.{AreMarksNoted, NotesMore, is_had}
+use Rattle.stack_recovery.specs.Recoveries.{AreMarksNoted, AreNoted, NotesMore, is_had}
 use Rattle.stack_recovery.specs.Stretches.{BeginsOtherwise}
 use Rattle.stack_recovery.specs.Surveys.{AreMarked, SectorState}
 
@@ -55,26 +55,27 @@ ahead-few before at sectors most now all e few = omega (arith, all, few, length-
 
 -- ---- the map that is made
 
-pub notes-some : (old new : Option (List Run)) (more : List Bool) → NotesMore old new more → is_some new ≡ is_some old
-notes-some None None more p = refl
-notes-some None (Some new) more p = absurd p
-notes-some (Some old) None more p = absurd p
-notes-some (Some old) (Some new) more p = refl
+pub notes-some : (flags : List Run → List Bool) (old new : Option (List Run)) (more : List Bool) → NotesMore flags old new more → is_some new ≡ is_some old
+notes-some flags None None more p = refl
+notes-some flags None (Some new) more p = absurd p
+notes-some flags (Some old) None more p = absurd p
+notes-some flags (Some old) (Some new) more p = refl
 
-map-append : (xs ys : List SectorState) → map is_had (xs ++ ys) ≡ map is_had xs ++ map is_had ys
-map-append [] ys = refl
-map-append (x ∷ xs) ys = ap (λ (l : List Bool). is_had x ∷ l) (map-append xs ys)
+map-append : (holds : SectorState → Bool) (xs ys : List SectorState) → map holds (xs ++ ys) ≡ map holds xs ++ map holds ys
+map-append holds [] ys = refl
+map-append holds (x ∷ xs) ys = ap (λ (l : List Bool). holds x ∷ l) (map-append holds xs ys)
 
-map-replicate : (n : ℕ) (s : SectorState) → map is_had (replicate n s) ≡ replicate n (is_had s)
-map-replicate zero s = refl
-map-replicate (suc n) s = ap (λ (l : List Bool). is_had s ∷ l) (map-replicate n s)
+map-replicate : (holds : SectorState → Bool) (n : ℕ) (s : SectorState) → map holds (replicate n s) ≡ replicate n (holds s)
+map-replicate holds zero s = refl
+map-replicate holds (suc n) s = ap (λ (l : List Bool). holds s ∷ l) (map-replicate holds n s)
 
-pub noted-more : (old new : Option (List Run)) (states : List SectorState) (n : ℕ) (s : SectorState) → AreMarksNoted old states → NotesMore old new (replicate n (is_had s)) → AreMarksNoted new (states ++ replicate n s)
-noted-more None None states n s p q = tt
-noted-more None (Some new) states n s p q = absurd q
-noted-more (Some old) None states n s p q = absurd q
-noted-more (Some old) (Some new) states n s p q =
-    q ∙ ap (λ (l : List Bool). l ++ replicate n (is_had s)) p ∙ sym (map-append states (replicate n s) ∙ ap (λ (l : List Bool). map is_had states ++ l) (map-replicate n s))
+pub noted-more : (flags : List Run → List Bool) (holds : SectorState → Bool) (old new : Option (List Run)) (states : List SectorState) (n : ℕ) (s : SectorState) → AreNoted flags holds old states → NotesMore flags old new (replicate n (holds s))
+    → AreNoted flags holds new (states ++ replicate n s)
+noted-more flags holds None None states n s p q = tt
+noted-more flags holds None (Some new) states n s p q = absurd q
+noted-more flags holds (Some old) None states n s p q = absurd q
+noted-more flags holds (Some old) (Some new) states n s p q =
+    q ∙ ap (λ (l : List Bool). l ++ replicate n (holds s)) p ∙ sym (map-append holds states (replicate n s) ∙ ap (λ (l : List Bool). map holds states ++ l) (map-replicate holds n s))
 
 length-map : (states : List SectorState) → length (map is_had states) ≡ length states
 length-map [] = refl

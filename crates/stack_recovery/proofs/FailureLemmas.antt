@@ -1,14 +1,16 @@
 -- How often the leaves fail in the first pass.
-use Rattle.std.proofs.Common.{◌≡◌, ℕ, zero, suc, ◌+◌, ◌-◌, ◌≤◌, List, [], ◌∷◌, length, sum, ap, arith}
+use Rattle.std.proofs.Common.{◌≡◌, ℕ, zero, suc, ◌+◌, ◌-◌, ◌≤◌, List, [], ◌∷◌, length, sum, sym, ap, subst, arith}
 use Rattle.std.proofs.lemmas.List.Sums.{sum_by-cons}
 use Rattle.block_device.specs.Device.{capped}
 use Rattle.stack_lines.specs.Touches.{failed_once, failures_by, failures_of}
 use Rattle.stack_meaning.specs.declared.fault.IoFault.{IoFault}
 use Rattle.stack_meaning.specs.declared.fault.IoFault.TheVariants as io
+use Rattle.stack_engine.specs.Healing.{HasNoParity}
 use Rattle.stack_engine.specs.Stacks.{StackRecord}
 use Rattle.stack_recovery.specs.PassLaws.{FailuresAreFew, failed_reads}
 use Rattle.stack_recovery.specs.Skims.{marks_of}
 use Rattle.stack_recovery.specs.Surveys.{AnswersFinding, Finding, again, fault_of, had, kept, lost}
+use Rattle.stack_recovery.proofs.SkimEndLemmas.{found-config}
 
 one-more : (n : ℕ) → n ≤ n + 1
 one-more n = omega arith
@@ -35,13 +37,14 @@ by-few (io.Stack fault) failures = one-more (sum failures)
 by-few (io.Device i) failures = once-few failures (i - 1)
 by-few io.NoMemory failures = one-more (sum failures)
 
-piece-fails : (d first : ℕ) (w : StackRecord) (n : ℕ) (found : Finding) (w' : StackRecord) → AnswersFinding w d first n found w' → sum (failures_of w'.leaves) ≤ sum (failures_of w.leaves) + failed_reads found
-piece-fails d first w n (had bytes) w' a = omega (arith, ap sum a.any.fails)
-piece-fails d first w n (lost loss) w' a = omega (arith, ap sum a.any.fails, by-few (fault_of loss) (failures_of w.leaves))
-piece-fails d first w n (again fault) w' a = omega (arith, ap sum a.any.fails, by-few fault (failures_of w.leaves))
-piece-fails d first w n kept w' a = omega (arith, ap (λ (s : StackRecord). sum (failures_of s.leaves)) a)
+piece-fails : (d first : ℕ) (w : StackRecord) (n : ℕ) (found : Finding) (w' : StackRecord) → HasNoParity w.config → AnswersFinding w d first n found w' → sum (failures_of w'.leaves) ≤ sum (failures_of w.leaves) + failed_reads found
+piece-fails d first w n (had bytes) w' none a = omega (arith, ap sum (a.any.fails (λ met. none)))
+piece-fails d first w n (lost loss) w' none a = omega (arith, ap sum (a.any.fails (λ met. none)), by-few (fault_of loss) (failures_of w.leaves))
+piece-fails d first w n (again fault) w' none a = omega (arith, ap sum (a.any.fails (λ met. none)), by-few fault (failures_of w.leaves))
+piece-fails d first w n kept w' none a = omega (arith, ap (λ (s : StackRecord). sum (failures_of s.leaves)) a)
 
 pub failures-are-few : FailuresAreFew
-failures-are-few marks d first w [] w' h = omega (arith, ap (λ (s : StackRecord). sum (failures_of s.leaves)) h)
-failures-are-few marks d first w (s ∷ more) w' h =
-    omega (arith, piece-fails d first w s.piece.count s.piece.found s.piece.after h.0.answered, failures-are-few marks d (first + length (marks_of s)) s.piece.after more w' h.1)
+failures-are-few marks d first w [] w' none h = omega (arith, ap (λ (s : StackRecord). sum (failures_of s.leaves)) h)
+failures-are-few marks d first w (s ∷ more) w' none h =
+    let later : HasNoParity s.piece.after.config = subst HasNoParity (sym (found-config marks d first w s.piece.count s.piece.found s.piece.after h.0.answered)) none in
+    omega (arith, piece-fails d first w s.piece.count s.piece.found s.piece.after none h.0.answered, failures-are-few marks d (first + length (marks_of s)) s.piece.after more w' later h.1)

@@ -7,6 +7,7 @@ use Rattle.stack_rules.specs.Names.{mapped, size}
 use Rattle.stack_rules.specs.Records.{Configuration}
 use Rattle.stack_meaning.specs.declared.fault.IoFault.{IoFault}
 use Rattle.stack_meaning.specs.declared.fault.IoFault.TheVariants.{Stack, Device as DeviceFailed, NoMemory}
+use Rattle.stack_meaning.specs.Agreement.{AgreesOn}
 use Rattle.stack_meaning.specs.Leaves.{AreRead, steady_images}
 use Rattle.stack_meaning.specs.LeavesBeneath.{stands_on}
 use Rattle.stack_meaning.specs.Meaning.{sector}
@@ -87,9 +88,10 @@ meant-fault c images d first n fault alike e =
 
 -- ---- pieces
 
-sure-kept : {these : ℕ → Bool} {old new : List Device} {n : ℕ} → AreRead old n new → AreSure these old → AreSure these new
-sure-kept {old = old} {new = new} a s = record {
+sure-kept : {c : Configuration} {these : ℕ → Bool} {old new : List Device} {n : ℕ} → AreRead old n new → AreSure c these old → AreSure c these new
+sure-kept {c = c} {these = these} {old = old} {new = new} a s = record {
   steady = AreSteady-kept old new a.moved.fixed s.steady;
+  agrees = subst (AgreesOn c these) (sym (images-kept a)) s.agrees;
   never_fail = λ i d low is. a.moved.never_fails i d (s.never_fail i d (omega (arith, low, same_length old new a.moved.fixed)) is);
 }
 
@@ -97,19 +99,19 @@ sure-kept {old = old} {new = new} a s = record {
 abbrev some-device : Device
 some-device = in_memory [] true
 
-module _ (marks : List Bool) (d first : ℕ) (w : StackRecord) (known : MarksAreMeant marks d w) (sure : AreSure (λ i. stands_on w.config i (mapped d)) w.leaves) (n : ℕ) (after : StackRecord) where
+module _ (marks : List Bool) (d first : ℕ) (w : StackRecord) (known : MarksAreMeant marks d w) (sure : AreSure w.config (λ i. stands_on w.config i (mapped d)) w.leaves) (n : ℕ) (after : StackRecord) where
   abbrev at : ℕ → Outcome
   at = sector w.config (steady_images w.leaves) (mapped d)
 
   meant-lost : (fault : IoFault) → EachBytes w d first n (Err fault) after → AreAlike w.config d first n → fault ≢ NoMemory → meant_states (sector w.config (steady_images w.leaves) (mapped d)) first n ≡ replicate n (Some (Lost fault))
-  meant-lost (Stack fault) p alike kind = meant-fault w.config (steady_images w.leaves) d first n fault alike (p.steady sure.steady).exact
+  meant-lost (Stack fault) p alike kind = meant-fault w.config (steady_images w.leaves) d first n fault alike (p.steady (record { steady = sure.steady; agrees = λ meets. sure.agrees })).exact
   meant-lost (DeviceFailed i) p alike kind = let failed = p.any.may.1 in absurd (failed.unsure some-device (sure.never_fail (i - 1) some-device failed.inside p.any.touches.fault))
   meant-lost NoMemory p alike kind = absurd (kind refl)
 
   pub meant-piece : (found : Finding) → IsScraped found → IsPieceSurveyed marks d first w (record { count = n; found = found; after = after })
       → states_found n found ≡ meant_states (sector w.config (steady_images w.leaves) (mapped d)) first (length (states_found n found))
   meant-piece (had bytes) scraped p =
-      sym (ap (meant_states at first) (length-replicate {A = SectorState} n None) ∙ meant-bytes at first n bytes (p.answered.steady sure.steady).exact)
+      sym (ap (meant_states at first) (length-replicate {A = SectorState} n None) ∙ meant-bytes at first n bytes (p.answered.steady (record { steady = sure.steady; agrees = λ meets. sure.agrees })).exact)
   meant-piece (lost (Unscraped fault)) scraped p = absurd scraped
   meant-piece (lost (Lost fault)) scraped p =
       sym (ap (meant_states at first) (length-replicate {A = SectorState} n (Some (Lost fault))) ∙ meant-lost fault p.answered p.may.0 p.may.1)
@@ -122,23 +124,23 @@ module _ (marks : List Bool) (d first : ℕ) (w : StackRecord) (known : MarksAre
 record IsLeft (d : ℕ) (w after : StackRecord) : Type 0 where
   config : after.config ≡ w.config
   images : steady_images after.leaves ≡ steady_images w.leaves
-  sure : AreSure (λ i. stands_on after.config i (mapped d)) after.leaves
+  sure : AreSure after.config (λ i. stands_on after.config i (mapped d)) after.leaves
 
-same-left : (d : ℕ) (w after : StackRecord) → after ≡ w → AreSure (λ i. stands_on w.config i (mapped d)) w.leaves → IsLeft d w after
+same-left : (d : ℕ) (w after : StackRecord) → after ≡ w → AreSure w.config (λ i. stands_on w.config i (mapped d)) w.leaves → IsLeft d w after
 same-left d w after e sure = subst (λ (v : StackRecord). IsLeft d w v) (sym e) (record { config = refl; images = refl; sure = sure })
 
-read-left : (d : ℕ) (w after : StackRecord) {n : ℕ} → AreRead w.leaves n after.leaves → after.config ≡ w.config → AreSure (λ i. stands_on w.config i (mapped d)) w.leaves → IsLeft d w after
+read-left : (d : ℕ) (w after : StackRecord) {n : ℕ} → AreRead w.leaves n after.leaves → after.config ≡ w.config → AreSure w.config (λ i. stands_on w.config i (mapped d)) w.leaves → IsLeft d w after
 read-left d w after moved config sure = record {
   config = config;
   images = images-kept moved;
-  sure = subst (λ (c : Configuration). AreSure (λ i. stands_on c i (mapped d)) after.leaves) (sym config) (sure-kept moved sure);
+  sure = subst (λ (c : Configuration). AreSure c (λ i. stands_on c i (mapped d)) after.leaves) (sym config) (sure-kept moved sure);
 }
 
 then-left : (d : ℕ) (w mid after : StackRecord) → IsLeft d w mid → IsLeft d mid after → IsLeft d w after
 then-left d w mid after p q = record { config = q.config ∙ p.config; images = q.images ∙ p.images; sure = q.sure }
 
 piece-left : (marks : List Bool) (d first : ℕ) (w : StackRecord) (n : ℕ) (found : Finding) (after : StackRecord) → IsPieceSurveyed marks d first w (record { count = n; found = found; after = after })
-    → AreSure (λ i. stands_on w.config i (mapped d)) w.leaves → IsLeft d w after
+    → AreSure w.config (λ i. stands_on w.config i (mapped d)) w.leaves → IsLeft d w after
 piece-left marks d first w n (had bytes) after p sure = read-left d w after p.answered.any.moved p.answered.any.config sure
 piece-left marks d first w n (lost fault) after p sure = read-left d w after p.answered.any.moved p.answered.any.config sure
 piece-left marks d first w n (again fault) after p sure = read-left d w after p.answered.any.moved p.answered.any.config sure
@@ -188,16 +190,16 @@ unmarked n k e = false≢true (marks-none n k ∙ e)
 
 -- of a piece the sectors that are marked were read
 piece-known : (before : List Bool) (d first : ℕ) (w : StackRecord) (n : ℕ) (found : Finding) (after : StackRecord) → ((k : ℕ) → get_or before k false ≡ true → ⊥)
-    → IsPieceSurveyed before d first w (record { count = n; found = found; after = after }) → AreSure (λ i. stands_on w.config i (mapped d)) w.leaves → (k : ℕ) → k < n → is_read found ≡ true
+    → IsPieceSurveyed before d first w (record { count = n; found = found; after = after }) → AreSure w.config (λ i. stands_on w.config i (mapped d)) w.leaves → (k : ℕ) → k < n → is_read found ≡ true
     → meant_state (sector w.config (steady_images w.leaves) (mapped d) (first + k)) ≡ None
-piece-known before d first w n (had bytes) after none p sure k low is = meant-byte (sector w.config (steady_images w.leaves) (mapped d)) first n bytes (p.answered.steady sure.steady).exact k low
+piece-known before d first w n (had bytes) after none p sure k low is = meant-byte (sector w.config (steady_images w.leaves) (mapped d)) first n bytes (p.answered.steady (record { steady = sure.steady; agrees = λ meets. sure.agrees })).exact k low
 piece-known before d first w n (lost fault) after none p sure k low is = absurd (false≢true is)
 piece-known before d first w n (again fault) after none p sure k low is = absurd (false≢true is)
 piece-known before d first w n kept after none p sure k low is = absurd (none (first + k) (p.marked k low))
 
 -- of a piece and those after it
 module _ (before : List Bool) (d first : ℕ) (w : StackRecord) (s : Skim) (more : List Skim) (none : (k : ℕ) → get_or before k false ≡ true → ⊥) (p : IsPieceSurveyed before d first w s.piece)
-    (sure : AreSure (λ i. stands_on w.config i (mapped d)) w.leaves) (left : IsLeft d w s.piece.after)
+    (sure : AreSure w.config (λ i. stands_on w.config i (mapped d)) w.leaves) (left : IsLeft d w s.piece.after)
     (rest : (k : ℕ) → get_or (skim_marks more) k false ≡ true → meant_state (sector s.piece.after.config (steady_images s.piece.after.leaves) (mapped d) (first + length (marks_of s) + k)) ≡ None) where
   within : (k : ℕ) → ((k < length (replicate s.piece.count (is_read s.piece.found))) × (get_or (replicate s.piece.count (is_read s.piece.found)) k false ≡ true))
       ⊎ ((j : ℕ) × (k ≡ length (replicate s.piece.count (is_read s.piece.found)) + j) × (get_or (replicate s.skip false) j false ≡ true)) → meant_state (sector w.config (steady_images w.leaves) (mapped d) (first + k)) ≡ None
@@ -217,7 +219,7 @@ module _ (before : List Bool) (d first : ℕ) (w : StackRecord) (s : Skim) (more
 
 -- what the pass leaves, and that the sectors that it marks mean bytes
 skims-known : (before : List Bool) (d first : ℕ) (w : StackRecord) (skims : List Skim) (w' : StackRecord) → ((k : ℕ) → get_or before k false ≡ true → ⊥) → IsSkimOver before d first w skims w'
-    → AreSure (λ i. stands_on w.config i (mapped d)) w.leaves
+    → AreSure w.config (λ i. stands_on w.config i (mapped d)) w.leaves
     → IsLeft d w w' × ((k : ℕ) → get_or (skim_marks skims) k false ≡ true → meant_state (sector w.config (steady_images w.leaves) (mapped d) (first + k)) ≡ None)
 skims-known before d first w [] w' none h sure = (same-left d w w' h sure, λ k e. absurd (false≢true e))
 skims-known before d first w (s ∷ more) w' none h sure =
@@ -227,7 +229,7 @@ skims-known before d first w (s ∷ more) w' none h sure =
 
 -- ---- the passes between the first one and the last
 
-survey-left : (before : List Bool) (d first : ℕ) (w : StackRecord) (reads : List PieceRead) (w' : StackRecord) → IsSurveyOver before d first w reads w' → AreSure (λ i. stands_on w.config i (mapped d)) w.leaves → IsLeft d w w'
+survey-left : (before : List Bool) (d first : ℕ) (w : StackRecord) (reads : List PieceRead) (w' : StackRecord) → IsSurveyOver before d first w reads w' → AreSure w.config (λ i. stands_on w.config i (mapped d)) w.leaves → IsLeft d w w'
 survey-left before d first w [] w' s sure = same-left d w w' s sure
 survey-left before d first w (r ∷ more) w' s sure =
     let left : IsLeft d w r.after = piece-left before d first w r.count r.found r.after s.0 sure in
@@ -247,7 +249,7 @@ pass-scraped : (no_scrape : Bool) (p : Pass) (reads : List PieceRead) → no_scr
 pass-scraped no_scrape p reads scrapes pieces = passes-scrape p reads (subst (λ (b : Bool). ArePassPieces b p reads) scrapes pieces)
 
 -- what a pass leaves, and that the sectors that its map marks mean bytes
-silent-known : (scan : Scanned) (old new : AfterPass Device) → scan.no_scrape ≡ false → IsSilentPass scan old new → MarksAreMeant (marks old.map) scan.d old.stack → AreSure (λ i. stands_on old.stack.config i (mapped scan.d)) old.stack.leaves
+silent-known : (scan : Scanned) (old new : AfterPass Device) → scan.no_scrape ≡ false → IsSilentPass scan old new → MarksAreMeant (marks old.map) scan.d old.stack → AreSure old.stack.config (λ i. stands_on old.stack.config i (mapped scan.d)) old.stack.leaves
     → IsLeft scan.d old.stack new.stack × MarksAreMeant (marks new.map) scan.d new.stack
 silent-known scan old new scrapes p known sure =
     let d : ℕ = scan.d in
@@ -262,7 +264,7 @@ silent-known scan old new scrapes p known sure =
           left-state d old.stack new.stack k left ∙ ap (λ (t : ℕ). meant_state (at t)) (sym here) ∙ meant-marked at 0 n k (sym (ap (λ (l : List Bool). get_or l k false) (over.noted ∙ ap (map is_had) meant)) ∙ is),
     )
 
-steps-known : (scan : Scanned) (first : AfterPass Device) → scan.no_scrape ≡ false → MarksAreMeant (marks first.map) scan.d first.stack → AreSure (λ i. stands_on first.stack.config i (mapped scan.d)) first.stack.leaves
+steps-known : (scan : Scanned) (first : AfterPass Device) → scan.no_scrape ≡ false → MarksAreMeant (marks first.map) scan.d first.stack → AreSure first.stack.config (λ i. stands_on first.stack.config i (mapped scan.d)) first.stack.leaves
     → {n : ℕ} {last : AfterPass Device} → Steps (λ (k : ℕ). IsSilentPass scan) first n last → IsLeft scan.d first.stack last.stack × MarksAreMeant (marks last.map) scan.d last.stack
 steps-known scan first scrapes known sure no_step = (same-left scan.d first.stack first.stack refl sure, known)
 steps-known scan first scrapes known sure (one_more {n} {now} {next} before step) =

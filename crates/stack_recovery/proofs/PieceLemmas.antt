@@ -1,5 +1,5 @@
 -- The pieces of a pass, their limits and their writes.
-use Rattle.std.proofs.Common.{◌≡◌, ◌≢◌, ◌⊎◌, ℕ, min, ◌+◌, ◌-◌, ◌≤◌, Bool, true, false, IsTrue, List, [], ◌∷◌, ◌++◌, length, drop, replicate, refl, sym, ap, ◌∙◌, subst, arith, append_assoc}
+use Rattle.std.proofs.Common.{◌≡◌, ◌≢◌, ◌⊎◌, ℕ, min, ◌+◌, ◌-◌, ◌≤◌, Bool, true, false, IsTrue, List, [], ◌∷◌, ◌++◌, length, drop, replicate, Some, refl, sym, ap, ◌∙◌, subst, arith, append_assoc}
 use Rattle.std.proofs.lemmas.Bool.{false≢true}
 use Rattle.std.specs.List.{slice_index_or}
 use Rattle.std.proofs.lemmas.List.{append-nil, length-append}
@@ -18,6 +18,7 @@ use Rattle.stack_recovery.specs.PassLaws.{AreScraped, IsLossScraped, IsScraped, 
 use Rattle.stack_recovery.specs.PassPieces.{AreInPieces, IsLossFound, IsNextPiece, IsPieceFound, IsReadAgain, Pass, limit_after, limit_from, pass_over}
 use Rattle.stack_recovery.specs.PieceLimits.{is_given_up, limit_of_run}
 use Rattle.stack_recovery.specs.Pieces.{EndsAligned}
+use Rattle.stack_recovery.specs.Recoveries.{is_lost}
 use Rattle.stack_recovery.specs.Skims.{IsSkimFound}
 use Rattle.stack_recovery.specs.Surveys.{Finding, MayLose, PieceRead, SectorState, again, all_states, fault_of, had, kept, lost, states_of}
 use Rattle.stack_recovery.specs.Stretches.{BeginsOtherwise}
@@ -82,6 +83,11 @@ skipped-piece config d before at count sectors n wanted skip fault rest kind e a
 pub loss-fault : (alike : Bool) (fault : IoFault) → fault_of (loss_by alike fault) ≡ fault
 loss-fault true fault = refl
 loss-fault false fault = refl
+
+-- its sectors are bad in the map
+pub loss-bad : (alike : Bool) (fault : IoFault) → alike ≡ is_lost (Some (loss_by alike fault))
+loss-bad true fault = refl
+loss-bad false fault = refl
 
 -- its sectors are lost together
 pub may-lose : (config : Configuration) (d first n : ℕ) (alike : Bool) (fault : IoFault) → (IsTrue alike → AreAlike config d first n) → fault ≢ NoMemory → MayLose config d first n (loss_by alike fault)

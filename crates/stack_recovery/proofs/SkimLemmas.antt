@@ -10,7 +10,7 @@ use Rattle.stack_meaning.specs.declared.fault.IoFault.{IoFault}
 use Rattle.stack_engine.specs.Bytes.{EachBytes}
 use Rattle.stack_engine.specs.Stacks.{StackRecord}
 use Rattle.rescue_map.specs.declared.map.Run.{Run}
-use Rattle.rescue_map.specs.Maps.{marks}
+use Rattle.rescue_map.specs.Maps.{losts, marks}
 use Rattle.stack_recovery.specs.declared.deadline.Deadline.{Deadline}
 use Rattle.stack_recovery.specs.declared.fault.RecoveryFault.TheVariants as recovery
 use Rattle.stack_recovery.specs.Deadlines.{EndsAt}
@@ -23,14 +23,15 @@ use Rattle.stack_recovery.specs.Skips.{least_skip, longer_skip, most_skip, skip_
 use Rattle.stack_recovery.specs.Surveys.{AreMarked, IsPieceSurveyed, again, had, kept}
 use Rattle.stack_recovery.proofs.SkimPieceLemmas.{marks-push, skim-calls-push, skim-copied-had, skim-copied-lost, skim-copied-none, skim-push, skims-push, skip-push}
 
--- The sectors before `at` were read or left, and the map marks those that were read. After the next failed read `wanted` sectors
--- are skipped.
+-- The sectors before `at` were read or left, and the map marks those that were read; none is bad. After the next failed read `wanted`
+-- sectors are skipped.
 pub record IsSkimming {O : Type 0} (state : O → Device) (Did : O → Call → O → Type 0) (start : ℕ) (before : List Bool) (d : ℕ) (old new : Transfer O) (at : ℕ) (made : List Run) (wanted : ℕ) : Type 0 where
   pub skims : List Skim
   pub survey : IsSkimOver before d 0 old.stack skims new.stack
   pub here : at ≡ length (skim_marks skims)
   pub copied : IsSkimCopied skims (state old.out) (state new.out)
   pub noted : marks made ≡ skim_marks skims
+  pub unfound : losts made ≡ replicate at false
   pub pieces : AreSkims (pass_over old.stack.config d before) 0 start skims
   pub skipping : wanted ≡ skip_from (most_skip (size old.stack.config (mapped d))) start skims
   pub did : Calls Did old.out (skim_calls 0 skims) new.out
@@ -42,6 +43,7 @@ skimming-none state Did start before d old = record {
   here = refl;
   copied = skim-copied-none (state old.out);
   noted = refl;
+  unfound = refl;
   pieces = tt;
   skipping = refl;
   did = refl;
@@ -76,12 +78,15 @@ module _ {O : Type 0} (state : O → Device) (Did : O → Call → O → Type 0)
   next-noted : (s : Skim) (more : List Run) (l : List Bool) → marks more ≡ marks made ++ l → l ≡ marks_of s → marks more ≡ skim_marks (u.skims ++ s ∷ [])
   next-noted s more l noting is = noting ∙ ap (λ (m : List Bool). m ++ l) u.noted ∙ ap (λ (m : List Bool). skim_marks u.skims ++ m) is ∙ sym (marks-push u.skims s)
 
+  next-unfound : (more : List Run) (n : ℕ) → losts more ≡ losts made ++ replicate n false → losts more ≡ replicate (at + n) false
+  next-unfound more n noting = noting ∙ ap (λ (m : List Bool). m ++ replicate n false) u.unfound ∙ replicate-append-replicate at n false
+
   -- a piece that was read, and written
   pub skimming-had : (n : ℕ) (bytes : List ℕ) (stack : StackRecord) (k : ℕ) (ok : Bool) (out : O) (more : List Run) → IsNextPiece (pass_over old.stack.config d before) at 128 n
-      → EachBytes now.stack d at n (Ok bytes) stack → AreMarked before at n false → marks more ≡ marks made ++ replicate n true → k ≡ n
+      → EachBytes now.stack d at n (Ok bytes) stack → AreMarked before at n false → marks more ≡ marks made ++ replicate n true → losts more ≡ losts made ++ replicate n false → k ≡ n
       → IsWritten (state now.out) at k ok (state out) → (IsTrue (state now.out).steady → (state out).image ≡ spliced (state now.out).image at (sectors_of k bytes)) → Did now.out (Write at bytes true) out
       → IsSkimming state Did start before d old (transfer stack out) (at + n) more least_skip
-  skimming-had n bytes stack k ok out more piece p marked noting count w image call =
+  skimming-had n bytes stack k ok out more piece p marked noting unfound count w image call =
       let s : Skim = record { piece = record { count = n; found = had bytes; after = stack }; skip = 0 } in
       let none : replicate n true ≡ marks_of s = sym (append-nil (replicate n true)) in
       let all : n ≡ length (marks_of s) = sym (length-replicate {A = Bool} n true) ∙ ap length none in
@@ -91,14 +96,15 @@ module _ {O : Type 0} (state : O → Device) (Did : O → Call → O → Type 0)
         here = next-here s n all;
         copied = skim-copied-had u.skims n at k bytes stack ok (state old.out) (state now.out) (state out) u.here count u.copied w image;
         noted = next-noted s more (replicate n true) noting none;
+        unfound = next-unfound more n unfound;
         pieces = next-skims s (piece, refl);
         skipping = next-skip s;
         did = subst (λ (l : List Call). Calls Did old.out l out) (next-calls s) (calls-last Did old.out now.out out (skim_calls 0 u.skims) (Write at bytes true) u.did call);
       }
 
   -- sectors that were read before
-  pub skimming-kept : (n : ℕ) (more : List Run) → 1 ≤ n → AreMarked before at n true → marks more ≡ marks made ++ replicate n true → IsSkimming state Did start before d old now (at + n) more wanted
-  skimming-kept n more some marked noting =
+  pub skimming-kept : (n : ℕ) (more : List Run) → 1 ≤ n → AreMarked before at n true → marks more ≡ marks made ++ replicate n true → losts more ≡ losts made ++ replicate n false → IsSkimming state Did start before d old now (at + n) more wanted
+  skimming-kept n more some marked noting unfound =
       let s : Skim = record { piece = record { count = n; found = kept; after = now.stack }; skip = 0 } in
       let none : replicate n true ≡ marks_of s = sym (append-nil (replicate n true)) in
       let all : n ≡ length (marks_of s) = sym (length-replicate {A = Bool} n true) ∙ ap length none in
@@ -108,6 +114,7 @@ module _ {O : Type 0} (state : O → Device) (Did : O → Call → O → Type 0)
         here = next-here s n all;
         copied = skim-copied-lost u.skims s (state old.out) (state now.out) (λ first m image. refl) u.copied;
         noted = next-noted s more (replicate n true) noting none;
+        unfound = next-unfound more n unfound;
         pieces = next-skims s refl;
         skipping = next-skip s;
         did = subst (λ (l : List Call). Calls Did old.out l now.out) (sym (append-nil (skim_calls 0 u.skims)) ∙ next-calls s) u.did;
@@ -115,9 +122,9 @@ module _ {O : Type 0} (state : O → Device) (Did : O → Call → O → Type 0)
 
   -- a piece whose read failed, and the sectors that are skipped after it
   pub skimming-skipped : (n skip : ℕ) (fault : IoFault) (stack : StackRecord) (more : List Run) → IsSkimFound (pass_over old.stack.config d before) at wanted n (again fault) skip
-      → EachBytes now.stack d at n (Err fault) stack → AreMarked before at n false → marks more ≡ marks made ++ replicate (n + skip) false
+      → EachBytes now.stack d at n (Err fault) stack → AreMarked before at n false → marks more ≡ marks made ++ replicate (n + skip) false → losts more ≡ losts made ++ replicate (n + skip) false
       → IsSkimming state Did start before d old (transfer stack now.out) (at + (n + skip)) more (longer_skip (most_skip (size old.stack.config (mapped d))) wanted)
-  skimming-skipped n skip fault stack more piece p marked noting =
+  skimming-skipped n skip fault stack more piece p marked noting unfound =
       let s : Skim = record { piece = record { count = n; found = again fault; after = stack }; skip = skip } in
       let both : replicate (n + skip) false ≡ marks_of s = sym (replicate-append-replicate n skip false) in
       record {
@@ -126,6 +133,7 @@ module _ {O : Type 0} (state : O → Device) (Did : O → Call → O → Type 0)
         here = next-here s (n + skip) (sym (length-replicate {A = Bool} (n + skip) false) ∙ ap length both);
         copied = skim-copied-lost u.skims s (state old.out) (state now.out) (λ first m image. refl) u.copied;
         noted = next-noted s more (replicate (n + skip) false) noting both;
+        unfound = next-unfound more (n + skip) unfound;
         pieces = next-skims s piece;
         skipping = next-skip s;
         did = subst (λ (l : List Call). Calls Did old.out l now.out) (sym (append-nil (skim_calls 0 u.skims)) ∙ next-calls s) u.did;
@@ -182,6 +190,7 @@ module _ {O : Type 0} (state : O → Device) (Did : O → Call → O → Type 0)
           copied = u.copied;
           unfailed = unfailed;
           noted = u.noted;
+          unfound = u.unfound ∙ ap (λ (n : ℕ). replicate n false) here;
         };
         ends = subst (λ (n : ℕ). EndsAt deadline n (size old.stack.config (mapped d))) here (subst (λ (n : ℕ). EndsAt deadline at n) all ends);
       }

@@ -9,7 +9,7 @@ use Rattle.stack_meaning.specs.declared.fault.IoFault.TheVariants.{NoMemory}
 use Rattle.stack_engine.specs.Bytes.{EachBytes}
 use Rattle.stack_engine.specs.Stacks.{StackRecord}
 use Rattle.rescue_map.specs.declared.map.Run.{Run}
-use Rattle.rescue_map.specs.Maps.{marks}
+use Rattle.rescue_map.specs.Maps.{losts, marks}
 use Rattle.stack_recovery.specs.declared.deadline.Deadline.{Deadline}
 use Rattle.stack_recovery.specs.declared.fault.RecoveryFault.{RecoveryFault}
 use Rattle.stack_recovery.specs.declared.fault.RecoveryFault.TheVariants as recovery
@@ -27,7 +27,7 @@ use Rattle.stack_recovery.specs.Listings.{Listed, Tells}
 use Rattle.stack_recovery.specs.Losses.{StopsInPiece}
 use Rattle.stack_recovery.specs.PassPieces.{ArePassPieces, IsLossFound, IsNextPiece, IsPieceFound, IsReadAgain, Scanned, limit_after, limit_from, pass_over}
 use Rattle.stack_recovery.specs.PieceLimits.{limit_after_bytes, limit_after_loss, limit_of_run, limit_up_to}
-use Rattle.stack_recovery.specs.Recoveries.{EndsEarly, FailsOutput, FindsNoMemory, GoesOverUntil, IsBegunOver, AreMarksNoted, IsMapRefused, NotesMore, RunsShort, Sides, counted_sectors, sides}
+use Rattle.stack_recovery.specs.Recoveries.{EndsEarly, FailsOutput, FindsNoMemory, GoesOverUntil, IsBegunOver, AreLossesNoted, AreMarksNoted, IsMapRefused, NotesMore, RunsShort, Sides, counted_sectors, is_had, is_lost, sides}
 use Rattle.stack_recovery.specs.Surveys.{AreMarked, IsPieceSurveyed, IsSurveyOver, MayLose, PieceRead, SectorState, again, all_states, fault_of, had, kept, lost, states_of}
 use Rattle.stack_recovery.proofs.AheadLemmas.{length-noted, noted-more}
 use Rattle.stack_recovery.proofs.CopyLemmas.{copied-had, copied-lost, copied-none}
@@ -50,6 +50,7 @@ pub record IsUnderway (makes_map : Bool) (before : List Bool) (scan : Scanned) (
   pub copied : IsCopied reads old.out new.out
   pub printed : Tells old.printed new.printed closed
   pub noted : AreMarksNoted made (all_states reads)
+  pub bad : AreLossesNoted made (all_states reads)
   pub pieces : ArePassPieces scan.no_scrape (pass_over old.stack.config scan.d before) reads
   pub limited : limit ≡ limit_from scan.no_scrape (limit_of_run 0) 0 reads
   pub written : calls ≡ copy_calls 0 reads
@@ -64,9 +65,9 @@ closed-tally old new closed same_lost same_untried =
     ap₂ {C = Tally} (λ (l : Option LostRun) (m : ℕ). record { last = l; lost = m; untried = new.untried }) closed same_lost
     ∙ ap (λ (t : ℕ). record { last = None; lost = old.lost; untried = t }) same_untried
 
-pub underway-none : (makes_map : Bool) (before : List Bool) (scan : Scanned) (old : Sides) (noted : Option (List Run)) (limit : PieceLimit) → AreMarksNoted noted [] → limit ≡ limit_of_run 0
+pub underway-none : (makes_map : Bool) (before : List Bool) (scan : Scanned) (old : Sides) (noted : Option (List Run)) (limit : PieceLimit) → AreMarksNoted noted [] → AreLossesNoted noted [] → limit ≡ limit_of_run 0
     → IsUnderway makes_map before scan old old 0 (record { last = None; lost = 0; untried = 0 }) noted limit []
-underway-none makes_map before scan old noted limit p first = record {
+underway-none makes_map before scan old noted limit p q first = record {
   reads = [];
   closed = [];
   survey = refl;
@@ -77,6 +78,7 @@ underway-none makes_map before scan old noted limit p first = record {
   copied = copied-none old.out;
   printed = tells_nothing old.printed;
   noted = p;
+  bad = q;
   pieces = tt;
   limited = first;
   written = refl;
@@ -171,10 +173,10 @@ module _ (makes_map : Bool) (before : List Bool) (scan : Scanned) (old now : Sid
 
   -- a piece that was had, written, and told
   pub underway-had : (n : ℕ) (bytes : List ℕ) (stack : StackRecord) (k : ℕ) (ok : Bool) (out : Device) (printed : Listed) (next : Tally) (more : Option (List Run)) (after : PieceLimit) → IsNextPiece (pass_over old.stack.config scan.d before) at limit.most n → after ≡ limit_after_bytes limit n (at + n)
-      → 1 ≤ n → EachBytes now.stack scan.d at n (Ok bytes) stack → AreMarked before at n false → NotesMore noted more (replicate n true) → k ≡ n
+      → 1 ≤ n → EachBytes now.stack scan.d at n (Ok bytes) stack → AreMarked before at n false → NotesMore marks noted more (replicate n true) → NotesMore losts noted more (replicate n false) → k ≡ n
       → IsWritten now.out at k ok out → (IsTrue now.out.steady → out.image ≡ spliced now.out.image at (sectors_of k bytes))
       → Tells now.printed printed (listed tally.last) → next ≡ record { last = None; lost = tally.lost; untried = tally.untried } → IsUnderway makes_map before scan old (sides stack out printed) (at + n) next more after (calls ++ Write at bytes true ∷ [])
-  underway-had n bytes stack k ok out printed next more after piece grown some p marked noting count w image told is =
+  underway-had n bytes stack k ok out printed next more after piece grown some p marked noting noting' count w image told is =
       let r : PieceRead = record { count = n; found = had bytes; after = stack } in
       let states : all_states (u.reads ++ r ∷ []) ≡ all_states u.reads ++ replicate n None = states-push u.reads r in
       subst (λ (t : Tally). IsUnderway makes_map before scan old (sides stack out printed) (at + n) t more after (calls ++ Write at bytes true ∷ [])) (sym is) (record {
@@ -187,16 +189,17 @@ module _ (makes_map : Bool) (before : List Bool) (scan : Scanned) (old now : Sid
         untried = u.untried ∙ sym (ap untried_in states ∙ untried_in-append (all_states u.reads) (states_of r) ∙ ap (λ (m : ℕ). untried_in (all_states u.reads) + m) (untried_in-had n) ∙ omega arith);
         copied = copied-had u.reads n at k bytes stack ok old.out now.out out u.here count u.copied w image;
         printed = runs-then old.printed now.printed printed u.closed (listed tally.last) u.printed told;
-        noted = rw states (noted-more noted more (all_states u.reads) n None u.noted noting);
+        noted = rw states (noted-more marks is_had noted more (all_states u.reads) n None u.noted noting);
+        bad = rw states (noted-more losts is_lost noted more (all_states u.reads) n None u.bad noting');
         pieces = next-pieces r piece;
         limited = grown ∙ next-limit r;
         written = next-calls r;
       })
 
   -- sectors that were had before
-  pub underway-kept : (n : ℕ) (printed : Listed) (next : Tally) (more : Option (List Run)) (after : PieceLimit) → after ≡ limit_of_run (at + n) → 1 ≤ n → AreMarked before at n true → NotesMore noted more (replicate n true)
+  pub underway-kept : (n : ℕ) (printed : Listed) (next : Tally) (more : Option (List Run)) (after : PieceLimit) → after ≡ limit_of_run (at + n) → 1 ≤ n → AreMarked before at n true → NotesMore marks noted more (replicate n true) → NotesMore losts noted more (replicate n false)
       → Tells now.printed printed (listed tally.last) → next ≡ record { last = None; lost = tally.lost; untried = tally.untried } → IsUnderway makes_map before scan old (sides now.stack now.out printed) (at + n) next more after calls
-  underway-kept n printed next more after begins some marked noting told is =
+  underway-kept n printed next more after begins some marked noting noting' told is =
       let r : PieceRead = record { count = n; found = kept; after = now.stack } in
       let states : all_states (u.reads ++ r ∷ []) ≡ all_states u.reads ++ replicate n None = states-push u.reads r in
       subst (λ (t : Tally). IsUnderway makes_map before scan old (sides now.stack now.out printed) (at + n) t more after calls) (sym is) (record {
@@ -209,7 +212,8 @@ module _ (makes_map : Bool) (before : List Bool) (scan : Scanned) (old now : Sid
         untried = u.untried ∙ sym (ap untried_in states ∙ untried_in-append (all_states u.reads) (states_of r) ∙ ap (λ (m : ℕ). untried_in (all_states u.reads) + m) (untried_in-had n) ∙ omega arith);
         copied = copied-lost u.reads r old.out now.out (λ first m image. refl) u.copied;
         printed = runs-then old.printed now.printed printed u.closed (listed tally.last) u.printed told;
-        noted = rw states (noted-more noted more (all_states u.reads) n None u.noted noting);
+        noted = rw states (noted-more marks is_had noted more (all_states u.reads) n None u.noted noting);
+        bad = rw states (noted-more losts is_lost noted more (all_states u.reads) n None u.bad noting');
         pieces = next-pieces r tt;
         limited = begins ∙ next-limit r;
         written = sym (append-nil calls) ∙ next-calls r;
@@ -217,10 +221,10 @@ module _ (makes_map : Bool) (before : List Bool) (scan : Scanned) (old now : Sid
 
   -- a piece that is lost, and told
   pub underway-lost : (n : ℕ) (loss : Loss) (stack : StackRecord) (printed : Listed) (next : Tally) (more : Option (List Run)) (after : PieceLimit) → IsNextPiece (pass_over old.stack.config scan.d before) at limit.most n → IsLossFound scan.no_scrape limit at n loss → after ≡ limit_after_loss scan.no_scrape limit (at + n)
-      → 1 ≤ n → EachBytes now.stack scan.d at n (Err (fault_of loss)) stack → AreMarked before at n false → NotesMore noted more (replicate n false) → MayLose now.stack.config scan.d at n loss
+      → 1 ≤ n → EachBytes now.stack scan.d at n (Err (fault_of loss)) stack → AreMarked before at n false → NotesMore marks noted more (replicate n false) → NotesMore losts noted more (replicate n (is_lost (Some loss))) → MayLose now.stack.config scan.d at n loss
       → Tells now.printed printed (closed_by is_same_loss tally.last (run at n loss)) → next ≡ record { last = Some (opened_by is_same_loss tally.last (run at n loss)); lost = tally.lost + lost_count loss n; untried = tally.untried + untried_count loss n }
       → IsUnderway makes_map before scan old (sides stack now.out printed) (at + n) next more after calls
-  underway-lost n loss stack printed next more after piece found grown some p marked noting may told is =
+  underway-lost n loss stack printed next more after piece found grown some p marked noting noting' may told is =
       let r : PieceRead = record { count = n; found = lost loss; after = stack } in
       let states : all_states (u.reads ++ r ∷ []) ≡ all_states u.reads ++ replicate n (Some loss) = states-push u.reads r in
       subst (λ (t : Tally). IsUnderway makes_map before scan old (sides stack now.out printed) (at + n) t more after calls) (sym is) (record {
@@ -233,7 +237,8 @@ module _ (makes_map : Bool) (before : List Bool) (scan : Scanned) (old now : Sid
         untried = ap (λ (m : ℕ). m + untried_count loss n) u.untried ∙ sym (ap untried_in states ∙ untried_in-append (all_states u.reads) (states_of r) ∙ ap (λ (m : ℕ). untried_in (all_states u.reads) + m) (untried_in-lost n loss));
         copied = copied-lost u.reads r old.out now.out (λ first m image. refl) u.copied;
         printed = runs-then old.printed now.printed printed u.closed (closed_by is_same_loss tally.last (run at n loss)) u.printed told;
-        noted = rw states (noted-more noted more (all_states u.reads) n (Some loss) u.noted noting);
+        noted = rw states (noted-more marks is_had noted more (all_states u.reads) n (Some loss) u.noted noting);
+        bad = rw states (noted-more losts is_lost noted more (all_states u.reads) n (Some loss) u.bad noting');
         pieces = next-pieces r (piece, found);
         limited = grown ∙ next-limit r;
         written = sym (append-nil calls) ∙ next-calls r;
@@ -256,6 +261,7 @@ module _ (makes_map : Bool) (before : List Bool) (scan : Scanned) (old now : Sid
         copied = copied-lost u.reads r old.out now.out (λ first m image. refl) u.copied;
         printed = u.printed;
         noted = rw states u.noted;
+        bad = rw states u.bad;
         pieces = next-pieces r (piece, small);
         limited = grown ∙ next-limit r;
         written = sym (append-nil calls) ∙ next-calls r;
@@ -280,6 +286,7 @@ module _ (makes_map : Bool) (before : List Bool) (scan : Scanned) (old now : Sid
       counted = is ∙ ap (λ (m : ℕ). tally_counts m tally) u.here
           ∙ ap₂ (λ (l t : ℕ). record { read = length (all_states u.reads) - (l + t); lost = l; untried = t }) u.lost u.untried;
       noted = u.noted;
+      bad = u.bad;
     };
     ends = subst (λ (n : ℕ). EndsAt deadline n (size old.stack.config (mapped scan.d))) (counted-all counts is) (subst (λ (n : ℕ). EndsAt deadline at n) all ends);
   }

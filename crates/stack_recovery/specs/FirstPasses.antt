@@ -8,7 +8,7 @@ use Rattle.stack_rules.specs.Records.{Configuration}
 use Rattle.stack_engine.specs.Bytes.{EachBytes}
 use Rattle.stack_engine.specs.Stacks.{StackRecord}
 use Rattle.rescue_map.specs.declared.map.Run.{Run}
-use Rattle.rescue_map.specs.Maps.{marks}
+use Rattle.rescue_map.specs.Maps.{losts, marks}
 use Rattle.stack_recovery.specs.declared.deadline.Deadline.{Deadline}
 use Rattle.stack_recovery.specs.declared.deadline.FirstPass.{FirstPass}
 use Rattle.stack_recovery.specs.declared.fault.RecoveryFault.{RecoveryFault}
@@ -45,8 +45,8 @@ pub record IsSkimCopied (skims : List Skim) (old new : Device) : Type 0 where
   pub same : IsSameDevice old new
   pub image : IsTrue old.steady → new.image ≡ skim_image 0 skims old.image
 
--- The first pass over the sectors of device d before `end`, in whose map the sectors are marked that were read, now or before. The
--- sectors that were read now were copied. After the first failed read `wanted` sectors are skipped, and after the next failed one
+-- The first pass over the sectors of device d before `end`, in whose map the sectors are marked that were read, now or before, and
+-- none is bad. The sectors that were read now were copied. After the first failed read `wanted` sectors are skipped, and after the next failed one
 -- those of the result.
 pub record SkimsTo (wanted : ℕ) (before : List Bool) (d end : ℕ) (old : Transfer Device) (made : Skimmed) (new : Transfer Device) : Type 0 where
   pub skims : List Skim
@@ -57,6 +57,7 @@ pub record SkimsTo (wanted : ℕ) (before : List Bool) (d end : ℕ) (old : Tran
   pub copied : IsSkimCopied skims old.out new.out
   pub unfailed : new.out.failures ≡ old.out.failures
   pub noted : marks made.map ≡ skim_marks skims
+  pub unfound : losts made.map ≡ replicate end false
 
 -- the first pass over all sectors
 abbrev pub Skims : ℕ → List Bool → ℕ → Transfer Device → Skimmed → Transfer Device → Type 0

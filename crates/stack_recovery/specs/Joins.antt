@@ -12,9 +12,14 @@ abbrev pub state_in : List LostRun → ℕ → SectorState
 state_in [] s = None
 state_in (r ∷ more) s = if nat_lt s (r.first + r.count) then (if nat_le r.first s then Some r.kind else None) else state_in more s
 
--- a bad sector that isn't read again is lost; its fault is that of binding 0, since a map has none
+-- a sector that is in no run, and is known to be lost, has the fault of binding 0, since a map has none
+abbrev pub or_known : Bool → SectorState → SectorState
+or_known known None = if known then Some (Lost (Device 0)) else None
+or_known known (Some loss) = Some loss
+
+-- the state of a sector by runs, or as a bad sector that isn't read again
 abbrev pub joined_state : Bool → Bool → List LostRun → ℕ → SectorState
-joined_state again bad runs s = if bad && not again then Some (Lost (Device 0)) else state_in runs s
+joined_state again bad runs s = or_known (bad && not again) (state_in runs s)
 
 -- the states of the sectors from one on, of which these are bad
 abbrev pub joined_states : Bool → ℕ → List Bool → List LostRun → List SectorState

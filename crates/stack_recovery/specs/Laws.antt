@@ -11,6 +11,7 @@ use Rattle.stack_rules.specs.Trees.{block_sectors}
 use Rattle.stack_meaning.specs.declared.fault.IoFault.TheVariants.{Stack}
 use Rattle.stack_meaning.specs.Kept.{verity_block}
 use Rattle.stack_engine.specs.Laws.{LiesInVerity}
+use Rattle.stack_meaning.specs.Agreement.{AgreesOn}
 use Rattle.stack_meaning.specs.Leaves.{AreSteady, steady_images}
 use Rattle.stack_meaning.specs.LeavesBeneath.{stands_on}
 use Rattle.stack_meaning.specs.Meaning.{sector}
@@ -29,9 +30,10 @@ use Rattle.stack_recovery.specs.TwoPasses.{Recovers}
 
 -- ---- on backing devices that are steady and never fail
 
--- each of these backing devices is steady and never fails
-pub record AreSure (these : ℕ → Bool) (leaves : List Device) : Type 0 where
+-- each of these backing devices is steady and never fails, and they agree with what parity restores on them
+pub record AreSure (c : Configuration) (these : ℕ → Bool) (leaves : List Device) : Type 0 where
   pub steady : AreSteady these leaves
+  pub agrees : AgreesOn c these (steady_images leaves)
   pub never_fail : (i : ℕ) (x : Device) → i < length leaves → IsTrue (these i) → IsTrue (slice_index_or leaves i x).never_fails
 
 -- the state of a sector that means this
@@ -51,12 +53,12 @@ MarksAreMeant marks d w = (k : ℕ) → slice_index_or marks k false ≡ true �
 -- If the backing devices are such, a sector is lost exactly if it means a fault, and by that fault: in a scan that leaves none
 -- unscraped, if the sectors that were read before mean bytes
 abbrev pub SurveysAreMeant : Type 0
-SurveysAreMeant = (marks : List Bool) (d first : ℕ) (w : StackRecord) (reads : List PieceRead) (w' : StackRecord) → IsSurveyOver marks d first w reads w' → AreScraped reads → MarksAreMeant marks d w → AreSure (λ i. stands_on w.config i (mapped d)) w.leaves
+SurveysAreMeant = (marks : List Bool) (d first : ℕ) (w : StackRecord) (reads : List PieceRead) (w' : StackRecord) → IsSurveyOver marks d first w reads w' → AreScraped reads → MarksAreMeant marks d w → AreSure w.config (λ i. stands_on w.config i (mapped d)) w.leaves
     → all_states reads ≡ meant_states (sector w.config (steady_images w.leaves) (mapped d)) first (length (all_states reads))
 
 -- and in a recovery in passes that scrape
 abbrev pub StatesAreMeant : Type 0
-StatesAreMeant = (t : Retried) (old : Sides) (counts : Counts) (new : Sides) (r : Recovers t old counts new) → t.no_scrape ≡ false → AreSure (λ i. stands_on old.stack.config i (mapped t.d)) old.stack.leaves
+StatesAreMeant = (t : Retried) (old : Sides) (counts : Counts) (new : Sides) (r : Recovers t old counts new) → t.no_scrape ≡ false → AreSure old.stack.config (λ i. stands_on old.stack.config i (mapped t.d)) old.stack.leaves
     → all_states r.rescues.reads ≡ meant_states (sector old.stack.config (steady_images old.stack.leaves) (mapped t.d)) 0 (length (all_states r.rescues.reads))
 
 -- ---- runs

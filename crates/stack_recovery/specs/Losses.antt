@@ -3,6 +3,7 @@ use Rattle.std.specs.Prelude.{◌≡◌, ◌⊎◌, ℕ, ◌+◌, Bool, true, fa
 use Rattle.stack_meaning.specs.declared.fault.IoFault.{IoFault}
 use Rattle.stack_meaning.specs.declared.fault.IoFault.TheVariants as io
 use Rattle.rescue_map.specs.declared.map.Run.{Run}
+use Rattle.rescue_map.specs.Maps.{losts, marks}
 use Rattle.stack_recovery.specs.declared.fault.RecoveryFault.{RecoveryFault}
 use Rattle.stack_recovery.specs.declared.fault.RecoveryFault.TheVariants.{NoMemory, Output}
 use Rattle.runs.specs.Tallies.{closed_by, opened_by}
@@ -17,10 +18,10 @@ use Rattle.stack_recovery.specs.Recoveries.{IsMapRefused, NotesMore}
 abbrev pub loss_by : Bool → IoFault → Loss
 loss_by alike fault = if alike then Lost fault else Unscraped fault
 
--- what is recorded in the map
-abbrev pub NotesLost : ℕ → Option (List Run) → Option (List Run) → Bool → Type 0
-NotesLost count old new true = NotesMore old new (replicate count false)
-NotesLost count old new false = new ≡ old
+-- what is recorded in the map: sectors that are lost together are bad
+abbrev pub NotesLost : ℕ → Bool → Option (List Run) → Option (List Run) → Bool → Type 0
+NotesLost count alike old new true = NotesMore marks old new (replicate count false) × NotesMore losts old new (replicate count alike)
+NotesLost count alike old new false = new ≡ old
 
 -- what is counted
 abbrev pub TalliesLost : LostRun → Tally → Tally → Bool → Type 0

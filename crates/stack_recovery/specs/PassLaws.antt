@@ -1,6 +1,7 @@
 -- Laws of the pieces of a pass.
 use Rattle.std.specs.Prelude.{◌≡◌, ℕ, ◌+◌, ◌≤◌, ◌<◌, Bool, false, List, [], ◌∷◌, length, sum}
 use Rattle.stack_lines.specs.Touches.{failures_of}
+use Rattle.stack_engine.specs.Healing.{HasNoParity}
 use Rattle.stack_engine.specs.Stacks.{StackRecord}
 use Rattle.stack_recovery.specs.declared.lost_run.Loss.{Loss}
 use Rattle.stack_recovery.specs.declared.lost_run.Loss.TheVariants.{Lost, Unscraped}
@@ -85,7 +86,7 @@ abbrev pub failed_pieces : List Skim → ℕ
 failed_pieces [] = 0
 failed_pieces (s ∷ more) = failed_reads s.piece.found + failed_pieces more
 
--- Until the first pass has reached its end, the leaves fail at most once for each of its pieces that failed.
+-- Without parity, until the first pass has reached its end, the leaves fail at most once for each of its pieces that failed.
 abbrev pub FailuresAreFew : Type 0
-FailuresAreFew = (marks : List Bool) (d first : ℕ) (w : StackRecord) (skims : List Skim) (w' : StackRecord) → IsSkimOver marks d first w skims w'
+FailuresAreFew = (marks : List Bool) (d first : ℕ) (w : StackRecord) (skims : List Skim) (w' : StackRecord) → HasNoParity w.config → IsSkimOver marks d first w skims w'
     → sum (failures_of w'.leaves) ≤ sum (failures_of w.leaves) + failed_pieces skims

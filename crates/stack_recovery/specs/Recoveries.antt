@@ -9,12 +9,13 @@ use Rattle.stack_meaning.specs.Reading.{MeetVerity}
 use Rattle.stack_engine.specs.Bytes.{EachBytes}
 use Rattle.stack_engine.specs.Stacks.{StackRecord}
 use Rattle.rescue_map.specs.declared.map.Run.{Run}
-use Rattle.rescue_map.specs.Maps.{marks}
+use Rattle.rescue_map.specs.Maps.{losts, marks}
 use Rattle.stack_recovery.specs.declared.deadline.Deadline.{Deadline}
 use Rattle.stack_recovery.specs.declared.deadline.DevicePass.{DevicePass}
 use Rattle.stack_recovery.specs.declared.fault.RecoveryFault.{RecoveryFault}
 use Rattle.stack_recovery.specs.declared.fault.RecoveryFault.TheVariants.{NoMemory, Output}
 use Rattle.runs.specs.Runs.{runs_of}
+use Rattle.stack_recovery.specs.declared.lost_run.Loss.TheVariants.{Lost, Unscraped}
 use Rattle.stack_recovery.specs.LostRuns.{LostRun, is_same_loss, lost_in, untried_in}
 use Rattle.stack_recovery.specs.declared.recovery.Counts.{Counts}
 use Rattle.stack_recovery.specs.declared.rescued.Rescued.{Rescued}
@@ -108,10 +109,23 @@ abbrev pub is_had : SectorState → Bool
 is_had None = true
 is_had (Some fault) = false
 
--- if a map is made, its marks are those of the states
+-- whether it is lost, and not only unscraped
+abbrev pub is_lost : SectorState → Bool
+is_lost None = false
+is_lost (Some (Lost fault)) = true
+is_lost (Some (Unscraped fault)) = false
+
+-- if a map is made, it has for each sector what holds of its state
+abbrev pub AreNoted : (List Run → List Bool) → (SectorState → Bool) → Option (List Run) → List SectorState → Type 0
+AreNoted flags holds None states = Unit {0}
+AreNoted flags holds (Some runs) states = flags runs ≡ map holds states
+
+-- its marks are those of the states, and its bad sectors those that are lost
 abbrev pub AreMarksNoted : Option (List Run) → List SectorState → Type 0
-AreMarksNoted None states = Unit {0}
-AreMarksNoted (Some runs) states = marks runs ≡ map is_had states
+AreMarksNoted made states = AreNoted marks is_had made states
+
+abbrev pub AreLossesNoted : Option (List Run) → List SectorState → Type 0
+AreLossesNoted made states = AreNoted losts is_lost made states
 
 -- how many of the sectors were read, how many are lost, and how many are unscraped
 abbrev pub counts_in : List SectorState → Counts
@@ -129,6 +143,7 @@ pub record GoesOverTo (before : List Bool) (scan : Scanned) (end : ℕ) (old : S
   pub printed : Tells old.printed new.printed (runs_of is_same_loss 0 (all_states reads))
   pub counted : counts ≡ counts_in (all_states reads)
   pub noted : AreMarksNoted made (all_states reads)
+  pub bad : AreLossesNoted made (all_states reads)
 
 -- such a pass over all sectors
 abbrev pub GoesOver : List Bool → Scanned → Sides → Counts → Option (List Run) → Sides → Type 0
@@ -164,7 +179,7 @@ abbrev pub EndsRescue : {O L : Type 0} → (O → Device) → (L → Listed) →
 EndsRescue state told pass before old new fault = IsRescueEnd before (scanned_by pass) (seen_sides state told old) (seen_sides state told new) fault
 
 -- these sectors were recorded after the earlier ones
-abbrev pub NotesMore : Option (List Run) → Option (List Run) → List Bool → Type 0
-NotesMore None None more = Unit {0}
-NotesMore (Some old) (Some new) more = marks new ≡ marks old ++ more
-NotesMore old new more = ⊥
+abbrev pub NotesMore : (List Run → List Bool) → Option (List Run) → Option (List Run) → List Bool → Type 0
+NotesMore flags None None more = Unit {0}
+NotesMore flags (Some old) (Some new) more = flags new ≡ flags old ++ more
+NotesMore flags old new more = ⊥

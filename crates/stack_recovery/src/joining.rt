@@ -1,9 +1,9 @@
 //! The lost runs that a pass found, among the bad sectors that it left.
-ghost use Rattle.std.specs.Prelude.{◌≡◌, ◌+◌, ◌<◌, ◌≤◌, ◌^◌, nat_lt};
+ghost use Rattle.std.specs.Prelude.{◌≡◌, ◌+◌, ◌<◌, ◌≤◌, ◌^◌, ◌&&◌, not, nat_lt, None};
 ghost use Rattle.rescue_map.specs.Maps.{losts};
 ghost use Rattle.runs.specs.Runs.{runs_of};
 ghost use Rattle.runs.specs.Tallies.{EndsAt};
-ghost use Rattle.stack_recovery.specs.Joins.{AreSameFrom, EndsAfter, HaveState, closed_with, joined_states, opened_with};
+ghost use Rattle.stack_recovery.specs.Joins.{AreSameFrom, EndsAfter, HaveState, closed_with, joined_states, opened_with, or_known};
 ghost use Rattle.stack_recovery.specs.Listings.{Tells};
 ghost use Rattle.stack_recovery.specs.LostRuns.{is_same_loss};
 
@@ -39,6 +39,17 @@ fn from_sector(found: &[LostRun], at: u64) -> &[LostRun]
     rest
 }
 
+// Returns the loss of sectors in which a pass found none: that of binding 0, if they are bad in a map and weren't read again.
+fn known_loss(bad: bool, again: bool) -> Option<Loss>
+    ensures { result ≡ or_known (bad && not again) None }
+{
+    if bad && !again {
+        Some(Loss::Lost(IoFault::Device(0)))
+    } else {
+        None
+    }
+}
+
 // Returns how many of the next sectors, a run of a map from sector `at` on, are alike, by the runs that a pass found among them.
 fn alike_at(run: Run, again: bool, rest: &[LostRun], at: u64) -> Alike
     requires some { 1 ≤ run.count }
@@ -47,23 +58,18 @@ fn alike_at(run: Run, again: bool, rest: &[LostRun], at: u64) -> Alike
     ensures few { result.count ≤ run.count }
     ensures state { HaveState again run.lost rest.now at result.count result.loss }
 {
-    if run.lost && !again {
-        return Alike {
-            count: run.count,
-            loss: Some(Loss::Lost(IoFault::Device(0))),
-        };
-    }
+    let loss = known_loss(run.lost, again);
     if rest.is_empty() {
         return Alike {
             count: run.count,
-            loss: None,
+            loss,
         };
     }
     let next = rest[0];
     if at < next.first {
         return Alike {
             count: run.count.min(next.first - at),
-            loss: None,
+            loss,
         };
     }
     Alike {
@@ -94,8 +100,8 @@ fn add<L: Listing>(tally: &mut Tally, listing: &mut L, at: u64, alike: Alike)
     }
 }
 
-/// Reports the longest runs of sectors that are lost by one fault, in rising order: those among the runs `found` by a pass, and the sectors
-/// that are bad in its map, unless it read these `again`. The fault of bad sectors is that of binding 0, since a map has none.
+/// Reports the longest runs of sectors that are lost by one fault, in rising order: those among the runs `found` by a pass, and the other
+/// sectors that are bad in its map, unless it read these `again`. The fault of these is that of binding 0, since a map has none.
 pub fn tell_among_bad<L: Listing>(listing: &mut L, map: &Map, again: bool, found: &[LostRun])
     ensures { Tells (L.told listing.old) (L.told listing.new) (runs_of is_same_loss 0 (joined_states again 0 (losts map.now) found.now)) }
 {

@@ -29,8 +29,8 @@ pub fn skimmed_pieces_are_longest()
     ensures { SkimmedPiecesAreLongest }
 {}
 
-/// In the first pass the backing devices fail at most once for each piece that can't be read. No other read comes before the device's
-/// end is reached.
+/// Without parity, in the first pass the backing devices fail at most once for each piece that can't be read. No other read comes
+/// before the device's end is reached.
 pub fn failures_are_few()
     ensures { FailuresAreFew }
 {}

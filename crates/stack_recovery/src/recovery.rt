@@ -8,7 +8,7 @@ ghost use Rattle.rescue_map.specs.Aheads.{marks_ahead};
 ghost use Rattle.stack_recovery.specs.Handing.{HandsOverPart, HandsOverUntil};
 ghost use Rattle.stack_recovery.specs.LeafReads.{CopiesAll, CopiesOver};
 ghost use Rattle.stack_recovery.specs.Losses.{ListsLost, NotesLost, StopsInPiece, TalliesLost, loss_by};
-ghost use Rattle.stack_recovery.specs.Recoveries.{EndsEarlyBy, GoesOverBy, AreMarksNoted, counted_sectors, parties};
+ghost use Rattle.stack_recovery.specs.Recoveries.{EndsEarlyBy, GoesOverBy, AreLossesNoted, AreMarksNoted, counted_sectors, parties};
 ghost use Rattle.stack_recovery.specs.Retries.{retried, retried_by};
 ghost use Rattle.stack_recovery.specs.TwoPasses.{EndsRecovery, HandsPasses, HandsPassesPart, RecoversBy};
 ghost use Rattle.runs.specs.Runs.{run};
@@ -150,7 +150,7 @@ pub(crate) fn go_over<D: BlockDev, O: BlockDev, L: Listing, P: Progress>(
     requires fits { length (marks_ahead ahead) ≡ size stack.old.config (mapped pass.device.0) }
     requires room { size stack.old.config (mapped pass.device.0) ≤ (O.state out.old).size }
     requires allowed { IsTrue (O.state out.old).may_write }
-    requires begun { AreMarksNoted noted.old [] }
+    requires begun { AreMarksNoted noted.old [] × AreLossesNoted noted.old [] }
     ensures ok { IfOk result (GoesOverBy O.state L.told pass (marks_ahead ahead.entry) (parties stack.old out.old listing.old) noted.new (parties stack.new out.new listing.new)) }
     ensures err { IfErr result (EndsEarlyBy O.state L.told (is_some noted.old) pass (marks_ahead ahead.entry) (parties stack.old out.old listing.old) (parties stack.new out.new listing.new)) }
     ensures noted { OnOk result (is_some noted.new ≡ is_some noted.old) }
@@ -188,7 +188,7 @@ fn go_over_by<D: BlockDev, O: BlockDev, L: Listing, P: Progress>(
     requires fits { length (marks_ahead ahead) ≡ size stack.old.config (mapped pass.device.0) }
     requires room { size stack.old.config (mapped pass.device.0) ≤ (O.state out.old).size }
     requires allowed { IsTrue (O.state out.old).may_write }
-    requires begun { AreMarksNoted noted.old [] }
+    requires begun { AreMarksNoted noted.old [] × AreLossesNoted noted.old [] }
     requires buffer { length room.old ≡ 65536 }
     requires few { size stack.old.config (mapped pass.device.0) ≤ 2 ^ 54 }
     ensures ok { IfOk result (GoesOverBy O.state L.told pass (marks_ahead ahead.entry) (parties stack.old out.old listing.old) noted.new (parties stack.new out.new listing.new)) }
@@ -206,7 +206,7 @@ fn go_over_by<D: BlockDev, O: BlockDev, L: Listing, P: Progress>(
     'pieces: while at < pass_end(pass.deadline, at, sectors, progress) {
         let run = next_stretch(&mut ahead);
         if run.had {
-            note(noted, run.count, true)?;
+            note(noted, run.count, true, false)?;
             tally.close(listing);
             ahead.pass(run.count);
             at += run.count;
@@ -218,7 +218,7 @@ fn go_over_by<D: BlockDev, O: BlockDev, L: Listing, P: Progress>(
             let bytes = &mut room[..piece.count as usize * 512];
             match stack.read_bytes(d, at, bytes) {
                 Ok(()) => {
-                    note(noted, count, true)?;
+                    note(noted, count, true, false)?;
                     out.write(at, bytes)?;
                     tally.close(listing);
                     ahead.pass(count);
@@ -266,7 +266,7 @@ fn lose_piece<L: Listing>(
     requires room { at + failed.piece.count < 2 ^ 64 }
     ensures given_up { IfOk result (λ lost. lost ≡ failed.given_up) }
     ensures kind { OnOk result (fault ≢ IoFault.NoMemory) }
-    ensures noted { IfOk result (NotesLost failed.piece.count noted.old noted.new) }
+    ensures noted { IfOk result (NotesLost failed.piece.count failed.piece.alike noted.old noted.new) }
     ensures tallied { IfOk result (TalliesLost (run at failed.piece.count (loss_by failed.piece.alike fault)) tally.old tally.new) }
     ensures told { IfOk result (ListsLost L.told (run at failed.piece.count (loss_by failed.piece.alike fault)) tally.old listing.old listing.new) }
     ensures err { IfErr result (StopsInPiece fault (is_some noted.old) listing.old listing.new) }
@@ -278,7 +278,7 @@ fn lose_piece<L: Listing>(
         return Ok(false);
     }
     let count = u64::from(failed.piece.count);
-    note(noted, count, false)?;
+    note(noted, count, false, failed.piece.alike)?;
     let run = LostRun {
         first: at,
         count,

@@ -125,7 +125,7 @@ fn skim_by<D: BlockDev, O: BlockDev, P: Progress>(
     'pieces: while at < pass_end(pass.deadline, at, sectors, progress) {
         let run = next_stretch(&mut ahead);
         if run.had {
-            mark(map, run.count, true)?;
+            mark(map, run.count, true, false)?;
             ahead.pass(run.count);
             at += run.count;
         } else {
@@ -135,7 +135,7 @@ fn skim_by<D: BlockDev, O: BlockDev, P: Progress>(
             let bytes = &mut room[..piece.count as usize * 512];
             match stack.read_bytes(pass.device, at, bytes) {
                 Ok(()) => {
-                    mark(map, count, true)?;
+                    mark(map, count, true, false)?;
                     out.write(at, bytes)?;
                     ahead.pass(count);
                     at += count;
@@ -144,7 +144,7 @@ fn skim_by<D: BlockDev, O: BlockDev, P: Progress>(
                 Err(fault) => {
                     check_memory(fault)?;
                     let left = count + skip.min(run.count - count);
-                    mark(map, left, false)?;
+                    mark(map, left, false, false)?;
                     ahead.pass(left);
                     at += left;
                     skip = longer_skip(skip, most);

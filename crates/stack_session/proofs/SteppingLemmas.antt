@@ -75,7 +75,7 @@ stay-synced first = record {
 
 pass-beneath : (first : List Device) → Passes EachPart (SteadyBeneath first) (StaySteady first)
 pass-beneath first v d at part answer v' stay p = (
-  λ sure. each-steady v d at part answer v' (stay (leaves_of v.config (mapped d)) sure) p,
+  λ sure agrees. each-steady v d at part answer v' (stay (leaves_of v.config (mapped d)) sure) agrees p,
   λ these sure. AreSteady-kept v.leaves v'.leaves (any-keeps v d at part answer v' (each-any v d at part answer v' p)).fixed (stay these sure),
 )
 

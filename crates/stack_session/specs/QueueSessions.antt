@@ -4,7 +4,7 @@ use Rattle.block_device.specs.Device.{Device}
 use Rattle.stack_rules.specs.Names.{mapped}
 use Rattle.stack_meaning.specs.Leaves.{AreSteady}
 use Rattle.stack_lines.specs.Touches.{leaves_of}
-use Rattle.request_queue.specs.Parts.{AnyPart, EachPart, PartRelation, SteadyPart}
+use Rattle.request_queue.specs.Parts.{AgreedPart, AnyPart, EachPart, PartRelation}
 use Rattle.request_queue.specs.Runs.{IsLed}
 use Rattle.request_queue.specs.World.{World, Step}
 use Rattle.stack_session.specs.declared.fault.SessionFault.{SessionFault}
@@ -13,9 +13,10 @@ use Rattle.program_io.specs.Streams.{Streams, streams}
 use Rattle.stack_session.specs.Session.{IsSession}
 use Rattle.stack_session.specs.Replies.{Replies, WholeStep}
 
--- A part of a request is what the stack means, if all of these backing devices that are below the request's device are steady.
+-- A part of a request is what the stack means, if all of these backing devices that are below the request's device are steady, and
+-- agree with what parity restores on them.
 abbrev pub SteadyBeneath : List Device → PartRelation
-SteadyBeneath leaves v d first part answer v' = AreSteady (leaves_of v.config (mapped d)) leaves → SteadyPart v d first part answer v'
+SteadyBeneath leaves v d first part answer v' = AreSteady (leaves_of v.config (mapped d)) leaves → AgreedPart v d first part answer v'
 
 -- What a session read and wrote, from the first state of its queue to the last.
 pub record IsQueueSession (first end : World) (old new : Streams) (result : Result Unit SessionFault) : Type 0 where

@@ -9,6 +9,7 @@ use Rattle.stack_rules.specs.Names.{mapped}
 use Rattle.stack_meaning.specs.declared.fault.IoFault.{IoFault}
 use Rattle.stack_meaning.specs.declared.fault.IoFault.TheVariants as io
 use Rattle.stack_meaning.specs.Found.{FoundRecord}
+use Rattle.stack_meaning.specs.Agreement.{AgreesOn}
 use Rattle.stack_meaning.specs.Leaves.{AreSteady, steady_images}
 use Rattle.stack_meaning.specs.Meaning.{said_at, sector}
 use Rattle.stack_meaning.specs.Reading.{MeetVerity}
@@ -18,7 +19,7 @@ use Rattle.stack_lines.specs.Touches.{TouchesOnly, leaves_of}
 use Rattle.stack_lines.proofs.lemmas.TouchLemmas.{touches-none, touches-then, touches-as}
 use Rattle.stack_engine.specs.Bytes.{EachBytes, IsGoodChain, MayBeBytes}
 use Rattle.stack_lines.specs.Budgets.{ReadsAtMost}
-use Rattle.stack_engine.specs.Pieces.{piece_budget}
+use Rattle.stack_engine.specs.Pieces.{IsCertainPiece, piece_budget}
 use Rattle.stack_engine.specs.Stacks.{StackRecord}
 use Rattle.stack_meaning.proofs.lemmas.FoundLemmas.{HasMore, said_at-mono, used-append}
 use Rattle.stack_meaning.proofs.lemmas.LeafListLemmas.{AreSteady-kept, AreRead-none, AreRead-then, images-kept}
@@ -80,7 +81,7 @@ cat-none d first end old = record {
   moved = AreRead-none 0 old.stack.leaves;
   touches = touches-none (leaves_of old.stack.config (mapped d)) old.stack.leaves (Ok []) tt;
   may = no-bytes old.stack.config (mapped d) first;
-  exact = λ steady. refl;
+  exact = λ steady agrees. refl;
   written = Appends-nil old.written;
 }
 
@@ -95,6 +96,13 @@ module _ (d first k end : ℕ) (old now : CatSide) (p : IsCat d first k end old 
   steady-now : AreSteady (leaves_of old.stack.config (mapped d)) old.stack.leaves → AreSteady (leaves_of now.stack.config (mapped d)) now.stack.leaves
   steady-now steady = subst (λ (c : Configuration). AreSteady (leaves_of c (mapped d)) now.stack.leaves) (sym p.config) (AreSteady-kept old.stack.leaves now.stack.leaves p.moved.moved.fixed steady)
 
+  -- so is what is read next
+  sure-now : (first : ℕ) → AreSteady (leaves_of old.stack.config (mapped d)) old.stack.leaves → AgreesOn old.stack.config (leaves_of old.stack.config (mapped d)) (steady_images old.stack.leaves) → IsCertainPiece now.stack d first n
+  sure-now first steady agrees = record {
+    steady = steady-now steady;
+    agrees = λ meets. subst (λ (c : Configuration). AgreesOn c (leaves_of c (mapped d)) (steady_images now.stack.leaves)) (sym p.config) (subst (AgreesOn old.stack.config (leaves_of old.stack.config (mapped d))) (sym (images-kept p.moved)) agrees);
+  }
+
   -- a piece that was had, and written
   pub cat-had : (bytes : List ℕ) (written : Option (List ℕ)) → EndsAligned now.stack.config d (first + k) end p.limit.most n → EachBytes now.stack d (first + k) n (Ok bytes) stack
       → ReadsAtMost (piece_budget now.stack d (first + k) n) now.stack.leaves stack.leaves → Appends now.written written bytes → IsCat d first (k + n) end old (cat_side stack written)
@@ -108,10 +116,10 @@ module _ (d first k end : ℕ) (old now : CatSide) (p : IsCat d first k end old 
     moved = AreRead-then p.moved q.any.moved;
     touches = touches-as (Ok (p.bytes ++ bytes)) tt (touches-then p.touches (subst (λ (c : Configuration). TouchesOnly {A = List ℕ} (leaves_of c (mapped d)) now.stack.leaves stack.leaves (Ok bytes)) p.config q.any.touches));
     may = bytes-then old.stack.config (mapped d) first k n p.bytes bytes p.may (subst (λ (c : Configuration). MayBeBytes c (mapped d) (first + k) n bytes) p.config q.any.may);
-    exact = λ steady.
+    exact = λ steady agrees.
         let f : ℕ → Outcome = sector old.stack.config (steady_images old.stack.leaves) (mapped d) in
-        span-then f first k n p.bytes bytes (p.exact steady)
-        (ap (λ (g : ℕ → Outcome). span g (first + k) n) (sym same-meaning) ∙ (q.steady (steady-now steady)).exact);
+        span-then f first k n p.bytes bytes (p.exact steady agrees)
+        (ap (λ (g : ℕ → Outcome). span g (first + k) n) (sym same-meaning) ∙ (q.steady (sure-now (first + k) steady agrees)).exact);
     written = Appends-trans old.written now.written written p.bytes bytes p.written told;
   }
 
@@ -132,14 +140,14 @@ module _ (d first k end : ℕ) (old now : CatSide) (p : IsCat d first k end old 
   }
 
   means-fault : (fault : IoFault) → EachBytes now.stack d (first + k) n (Err fault) stack → (fault ≢ io.NoMemory → AreAlike old.stack.config d (first + k) n) → AreSteady (leaves_of old.stack.config (mapped d)) old.stack.leaves
-      → MeansFault (sector old.stack.config (steady_images old.stack.leaves) (mapped d) (first + k)) fault
-  means-fault (io.Stack fault) q alike steady =
+      → AgreesOn old.stack.config (leaves_of old.stack.config (mapped d)) (steady_images old.stack.leaves) → MeansFault (sector old.stack.config (steady_images old.stack.leaves) (mapped d) (first + k)) fault
+  means-fault (io.Stack fault) q alike steady agrees =
       let f : ℕ → Outcome = sector old.stack.config (steady_images old.stack.leaves) (mapped d) in
       let kind : io.Stack fault ≢ io.NoMemory = λ e. cc in
       first-lost old.stack.config (steady_images old.stack.leaves) d (first + k) n fault (alike kind)
-      (ap (λ (g : ℕ → Outcome). span g (first + k) n) (sym same-meaning) ∙ (q.steady (steady-now steady)).exact)
-  means-fault (io.Device i) q alike steady = tt
-  means-fault io.NoMemory q alike steady = tt
+      (ap (λ (g : ℕ → Outcome). span g (first + k) n) (sym same-meaning) ∙ (q.steady (sure-now (first + k) steady agrees)).exact)
+  means-fault (io.Device i) q alike steady agrees = tt
+  means-fault io.NoMemory q alike steady agrees = tt
 
 module _ (d first k count : ℕ) (old now : CatSide) (p : IsCat d first k (first + count) old now) (n : ℕ) (stack : StackRecord) where
   -- a piece that ends it

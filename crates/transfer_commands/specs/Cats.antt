@@ -5,6 +5,7 @@ use Rattle.program_io.specs.Counted.{CountedRecord}
 use Rattle.stack_rules.specs.Names.{mapped, size}
 use Rattle.stack_meaning.specs.declared.fault.IoFault.{IoFault}
 use Rattle.stack_meaning.specs.declared.fault.IoFault.TheVariants as io
+use Rattle.stack_meaning.specs.Agreement.{AgreesOn}
 use Rattle.stack_meaning.specs.Leaves.{AreSteady, AreRead, steady_images}
 use Rattle.stack_meaning.specs.Meaning.{said_at, sector}
 use Rattle.stack_meaning.specs.Outcomes.{Outcome, span}
@@ -41,7 +42,7 @@ pub data ReadsAligned (d first end : ℕ) (w : StackRecord) : ℕ → PieceLimit
       → EachBytes v d (first + k) n (Err fault) w' → ReadsAligned d first end w k (limit_after_failure n (first + k + n)) w'
 
 -- The bytes of k sectors of device d from the first on were written, and nothing else. Over any backing devices there are
--- verified chains for the bytes; over steady ones the bytes are what the stack means. Only backing devices below the device
+-- verified chains for the bytes; over steady ones that agree with what parity restores the bytes are what the stack means. Only backing devices below the device
 -- were accessed, by reads of pieces that end as those of a transfer up to `end` do.
 pub record IsCat (d first k end : ℕ) (old new : CatSide) : Type 0 where
   pub bytes : List ℕ
@@ -51,7 +52,7 @@ pub record IsCat (d first k end : ℕ) (old new : CatSide) : Type 0 where
   pub moved : AreRead old.stack.leaves most new.stack.leaves
   pub touches : TouchesOnly (leaves_of old.stack.config (mapped d)) old.stack.leaves new.stack.leaves (Ok bytes)
   pub may : MayBeBytes old.stack.config (mapped d) first k bytes
-  pub exact : AreSteady (leaves_of old.stack.config (mapped d)) old.stack.leaves → span (sector old.stack.config (steady_images old.stack.leaves) (mapped d)) first k ≡ Ok bytes
+  pub exact : AreSteady (leaves_of old.stack.config (mapped d)) old.stack.leaves → AgreesOn old.stack.config (leaves_of old.stack.config (mapped d)) (steady_images old.stack.leaves) → span (sector old.stack.config (steady_images old.stack.leaves) (mapped d)) first k ≡ Ok bytes
   pub written : Appends old.written new.written bytes
   pub limit : PieceLimit
   pub pieces : ReadsAligned d first end old.stack k limit new.stack
@@ -74,7 +75,7 @@ pub record IsCatStop (d first count : ℕ) (old new : CatSide) (fault : IoFault)
   pub read : EachBytes left d (first + k) n (Err fault) new.stack
   pub memory : fault ≡ io.NoMemory → MeetVerity (said_at old.stack.config (mapped d)) (first + k) n
   pub alike : fault ≢ io.NoMemory → AreAlike old.stack.config d (first + k) n
-  pub means : AreSteady (leaves_of old.stack.config (mapped d)) old.stack.leaves → MeansFault (sector old.stack.config (steady_images old.stack.leaves) (mapped d) (first + k)) fault
+  pub means : AreSteady (leaves_of old.stack.config (mapped d)) old.stack.leaves → AgreesOn old.stack.config (leaves_of old.stack.config (mapped d)) (steady_images old.stack.leaves) → MeansFault (sector old.stack.config (steady_images old.stack.leaves) (mapped d) (first + k)) fault
 
 -- why writing stopped early; `failed` is whether the writer failed
 abbrev pub IsCatEnd : ℕ → SectorRange → CatSide → CatSide → Bool → CatFault → Type 0

@@ -6,6 +6,7 @@ use Rattle.request_queue.specs.World.{World}
 use Rattle.nbd_protocol.specs.Exports.{ExportRecord, IsExport}
 use Rattle.nbd_protocol.specs.Streaming.{HasRead, HasWritten, result_fault}
 use Rattle.nbd_protocol.specs.declared.fault.ServiceFault.{ServiceFault}
+use Rattle.nbd_server.specs.FaultLines.{AnyFaults}
 use Rattle.nbd_server.specs.Service.{IsService}
 use Rattle.nbd_server.specs.declared.session_end.SessionEnd.{SessionEnd}
 use Rattle.nbd_server.specs.declared.session_log.SessionLog.{SessionLog}
@@ -16,6 +17,6 @@ pub record ServesDevice {R W : Type 0} (remaining : R → Option (List ℕ)) (co
   pub named : export.name ≡ name
   pub is : IsExport w.stack.config export
   pub log : SessionLog
-  pub service : IsService (export ∷ []) w w' (streams (remaining reader.inner) (contents writer.inner)) (streams (remaining reader'.inner) (contents writer'.inner)) log result
+  pub service : IsService (export ∷ []) w w' (streams (remaining reader.inner) (contents writer.inner)) (streams (remaining reader'.inner) (contents writer'.inner)) log AnyFaults result
   pub reads : HasRead 0 reader reader' (result_fault result)
   pub writes : HasWritten writer writer' (result_fault result)

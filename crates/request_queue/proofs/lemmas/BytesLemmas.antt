@@ -23,6 +23,7 @@ use Rattle.stack_meaning.proofs.lemmas.RunLemmas.{fill_ok, fill_err, fill_more}
 use Rattle.stack_lines.specs.Touches.{EndsAtFailure, TouchesOnly, failures_by, leaves_of}
 use Rattle.stack_lines.proofs.lemmas.TouchLemmas.{touches-none, touches-then, touches-as}
 use Rattle.stack_engine.specs.Bytes.{AnyBytes, EachBytes, IsGoodChain, MayBeBytes}
+use Rattle.stack_engine.specs.Healing.{HasNoParity}
 use Rattle.stack_engine.specs.Laws.{ForgedBytesCollide}
 use Rattle.stack_engine.specs.Stacks.{StackRecord}
 use Rattle.request_queue.specs.declared.fault.SubmitFault.TheVariants.{NoSuchDevice, OutOfRange, Length}
@@ -39,14 +40,14 @@ record Shown (c : Configuration) (d first n : ℕ) (old new : List Device) (byte
   chains : List FoundRecord
   gets : Gets (run_expected (place_of c (mapped d)) chains first n) old new (Ok bytes)
   touches : TouchesOnly (leaves_of c (mapped d)) old new (Ok bytes)
-  fails : EndsAtFailure old new (Ok bytes)
+  fails : (MeetVerity (said_at c (mapped d)) first n → HasNoParity c) → EndsAtFailure old new (Ok bytes)
   used : AreUsed (λ s. (said_at c (mapped d) s).entries) first n chains
   good : All (IsGoodChain c) chains
 
 shown : {w w' : StackRecord} (d first n : ℕ) (bytes : List ℕ) → EachBytes w d first n (Ok bytes) w' → Shown w.config d first n w.leaves w'.leaves bytes
 shown d first n bytes p = record {
   chains = p.any.may.chains;
-  gets = record { moved = p.any.moved; may = p.any.may.read.run; exact = λ steady. (p.steady steady).exact };
+  gets = record { moved = p.any.moved; may = p.any.may.read.run; exact = λ sure. (p.steady (record { steady = sure.steady; agrees = sure.agrees })).exact };
   touches = p.any.touches;
   fails = p.any.fails;
   used = p.any.may.read.used;
@@ -56,7 +57,7 @@ shown d first n bytes p = record {
 each-shown : {w w' : StackRecord} (d first n : ℕ) (bytes : List ℕ) → w'.config ≡ w.config → w'.capacity ≡ w.capacity → Shown w.config d first n w.leaves w'.leaves bytes → EachBytes w d first n (Ok bytes) w'
 each-shown {w = w} {w' = w'} d first n bytes config capacity p =
     let any : AnyBytes w d first n (Ok bytes) w' = record { config = config; capacity = capacity; moved = p.gets.moved; may = record { chains = p.chains; read = record { run = p.gets.may; used = p.used }; good = p.good }; touches = p.touches; fails = p.fails } in
-    record { any = any; steady = λ steady. record { any = any; exact = p.gets.exact steady } }
+    record { any = any; steady = λ sure. record { any = any; exact = p.gets.exact (record { steady = sure.steady; agrees = sure.agrees }) } }
 
 module _ (c : Configuration) (d first a m : ℕ) {old mid new : List Device} {xs ys : List ℕ} where
   shown-then : Shown c d first a old mid xs → Shown c d (first + a) m mid new ys → Shown c d first (a + m) old new (xs ++ ys)
@@ -68,7 +69,7 @@ module _ (c : Configuration) (d first a m : ℕ) {old mid new : List Device} {xs
             (fill_more (place_of c (mapped d)) first a {u = p.chains} {v = all} (said_at-mono c (mapped d)) (Contains-append_left p.chains q.chains) p.gets)
             (fill_more (place_of c (mapped d)) (first + a) m {u = q.chains} {v = all} (said_at-mono c (mapped d)) (Contains-append_right p.chains q.chains) q.gets);
         touches = touches-as (Ok (xs ++ ys)) tt (touches-then p.touches q.touches);
-        fails = q.fails ∙ p.fails;
+        fails = λ none. q.fails (λ met. none (SomeOf-more (λ s. (said_at c (mapped d) s).meets mismatch) first a m (a + m) (omega arith) met)) ∙ p.fails (λ met. none (met.0, omega (arith, met.1), met.2));
         used = used-append (λ s. (said_at c (mapped d) s).entries) first a m p.chains q.chains p.used q.used;
         good = All-append (IsGoodChain c) p.chains q.chains p.good q.good;
       }
@@ -77,9 +78,9 @@ module _ (c : Configuration) (d first a m : ℕ) {old mid new : List Device} {xs
 pub bytes-none : (w : StackRecord) (d first : ℕ) → EachBytes w d first 0 (Ok []) w
 bytes-none w d first = each-shown {w = w} {w' = w} d first 0 [] refl refl (record {
   chains = [];
-  gets = record { moved = AreRead-none _ w.leaves; may = record { len = refl; sectors = λ j h. absurd (omega (arith, h)) }; exact = λ steady. refl };
+  gets = record { moved = AreRead-none _ w.leaves; may = record { len = refl; sectors = λ j h. absurd (omega (arith, h)) }; exact = λ sure. refl };
   touches = touches-none (leaves_of w.config (mapped d)) w.leaves (Ok []) tt;
-  fails = refl;
+  fails = λ none. refl;
   used = All-nil _;
   good = All-nil _;
 })
@@ -93,21 +94,21 @@ bytes-then w v w' d first a m xs ys p q =
 -- ---- a fault
 
 fails-of : {w w' : StackRecord} (d first n : ℕ) (chains : List FoundRecord) (fault : IoFault) → EachBytes w d first n (Err fault) w' → Gets (run_expected (place_of w.config (mapped d)) chains first n) w.leaves w'.leaves (Err fault)
-fails-of d first n chains (io.Stack fault) p = record { moved = p.any.moved; may = p.any.may; exact = λ steady. (p.steady steady).exact }
-fails-of d first n chains (io.Device i) p = record { moved = p.any.moved; may = p.any.may; exact = λ steady. tt }
-fails-of d first n chains io.NoMemory p = record { moved = p.any.moved; may = p.any.may; exact = λ steady. tt }
+fails-of d first n chains (io.Stack fault) p = record { moved = p.any.moved; may = p.any.may; exact = λ sure. (p.steady (record { steady = sure.steady; agrees = sure.agrees })).exact }
+fails-of d first n chains (io.Device i) p = record { moved = p.any.moved; may = p.any.may; exact = λ sure. tt }
+fails-of d first n chains io.NoMemory p = record { moved = p.any.moved; may = p.any.may; exact = λ sure. tt }
 
 each-fails : {w w' : StackRecord} (d first n : ℕ) (chains : List FoundRecord) (fault : IoFault) → w'.config ≡ w.config → w'.capacity ≡ w.capacity → Gets (run_expected (place_of w.config (mapped d)) chains first n) w.leaves w'.leaves (Err fault)
-    → TouchesOnly {A = List ℕ} (leaves_of w.config (mapped d)) w.leaves w'.leaves (Err fault) → EndsAtFailure {A = List ℕ} w.leaves w'.leaves (Err fault) → EachBytes w d first n (Err fault) w'
+    → TouchesOnly {A = List ℕ} (leaves_of w.config (mapped d)) w.leaves w'.leaves (Err fault) → ((MeetVerity (said_at w.config (mapped d)) first n → HasNoParity w.config) → EndsAtFailure {A = List ℕ} w.leaves w'.leaves (Err fault)) → EachBytes w d first n (Err fault) w'
 each-fails {w = w} {w' = w'} d first n chains (io.Stack fault) config capacity p touches fails =
     let any : AnyBytes w d first n (Err (io.Stack fault)) w' = record { config = config; capacity = capacity; moved = p.moved; may = p.may; touches = touches; fails = fails } in
-    record { any = any; steady = λ steady. record { any = any; exact = p.exact steady } }
+    record { any = any; steady = λ sure. record { any = any; exact = p.exact (record { steady = sure.steady; agrees = sure.agrees }) } }
 each-fails {w = w} {w' = w'} d first n chains (io.Device i) config capacity p touches fails =
     let any : AnyBytes w d first n (Err (io.Device i)) w' = record { config = config; capacity = capacity; moved = p.moved; may = p.may; touches = touches; fails = fails } in
-    record { any = any; steady = λ steady. record { any = any; exact = tt } }
+    record { any = any; steady = λ sure. record { any = any; exact = tt } }
 each-fails {w = w} {w' = w'} d first n chains io.NoMemory config capacity p touches fails =
     let any : AnyBytes w d first n (Err io.NoMemory) w' = record { config = config; capacity = capacity; moved = p.moved; may = p.may; touches = touches; fails = fails } in
-    record { any = any; steady = λ steady. record { any = any; exact = tt } }
+    record { any = any; steady = λ sure. record { any = any; exact = tt } }
 
 -- a piece that ends all n sectors by its fault
 pub bytes-end : (w v w' : StackRecord) (d first a m n : ℕ) (xs : List ℕ) (fault : IoFault) → a + m ≤ n → EachBytes w d first a (Ok xs) v → EachBytes v d (first + a) m (Err fault) w' → EachBytes w d first n (Err fault) w'
@@ -118,7 +119,9 @@ bytes-end w v w' d first a m n xs fault inside p q =
     each-fails {w = w} {w' = w'} d first n one.chains fault (q.any.config ∙ p.any.config) (q.any.capacity ∙ p.any.capacity)
     (fill_err (place_of w.config (mapped d)) one.chains first a m one.gets n fault inside next)
     (touches-then one.touches (subst (λ (c : Configuration). TouchesOnly {A = List ℕ} (leaves_of c (mapped d)) v.leaves w'.leaves (Err fault)) p.any.config q.any.touches))
-    (q.any.fails ∙ ap (failures_by fault) one.fails)
+    (λ none. q.any.fails (λ met. subst HasNoParity (sym p.any.config)
+    (none (SomeOf-more (λ s. (said_at w.config (mapped d) s).meets mismatch) first a m n inside (subst (λ (c : Configuration). MeetVerity (said_at c (mapped d)) (first + a) m) p.any.config met))))
+    ∙ ap (failures_by fault) (one.fails (λ met. none (met.0, omega (arith, met.1, inside), met.2))))
 
 -- ---- the pieces of a slice
 

@@ -10,6 +10,7 @@ use Rattle.stack_rules.specs.Names.{mapped}
 use Rattle.stack_rules.specs.Records.{Configuration}
 use Rattle.stack_meaning.specs.Blocks.{hash_place, hash_sectors}
 use Rattle.stack_meaning.specs.declared.fault.IoFault.{IoFault}
+use Rattle.stack_meaning.specs.Agreement.{AgreesOn}
 use Rattle.stack_meaning.specs.Leaves.{AreSteady, AreRead}
 use Rattle.stack_meaning.specs.Meaning.{said_at, said_by_name}
 use Rattle.stack_meaning.specs.Outcomes.{Images, span}
@@ -79,9 +80,10 @@ leaves-checked v leaves read checked = record { few = checked.few; distinct = ch
           verity = one.verity;
           line = one.line;
           block = one.block;
-          exact = λ steady.
+          exact = λ steady agrees.
               let before : AreSteady (λ j. name_stands_on v.config j one.verity.hash) v.leaves = AreSteady-kept leaves v.leaves (sym read.moved.fixed) steady in
-              ap (λ (m : Images). span (λ s. (said_by_name v.config one.verity.hash s).means m) (hash_place one.verity key.level key.block) (hash_sectors one.verity)) (images-kept read) ∙ one.exact before;
+              ap (λ (m : Images). span (λ s. (said_by_name v.config one.verity.hash s).means m) (hash_place one.verity key.level key.block) (hash_sectors one.verity)) (images-kept read)
+              ∙ one.exact before (subst (AgreesOn v.config (λ j. name_stands_on v.config j one.verity.hash)) (images-kept read) agrees);
         }
 
 none-checked : (c : Configuration) (leaves : List Device) (capacity : ℕ) {restored : ℕ} → AreChecked (record { config = c; leaves = leaves; capacity = capacity; kept = []; restored = restored })

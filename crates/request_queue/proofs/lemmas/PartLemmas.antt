@@ -6,7 +6,8 @@ use Rattle.stack_rules.specs.Records.{Configuration}
 use Rattle.stack_rules.specs.Names.{mapped}
 use Rattle.stack_rules.specs.Descend.{read_cost, write_cost}
 use Rattle.stack_meaning.specs.declared.fault.IoFault.{IoFault}
-use Rattle.stack_meaning.specs.Leaves.{AreSteady, fixed_part}
+use Rattle.stack_meaning.specs.Agreement.{AgreesOn}
+use Rattle.stack_meaning.specs.Leaves.{steady_images, AreSteady, fixed_part}
 use Rattle.stack_lines.specs.Touches.{leaves_of}
 use Rattle.stack_engine.specs.KeptBlocks.{AreChecked}
 use Rattle.stack_engine.specs.Stacks.{StackRecord, AnswerRecord}
@@ -61,14 +62,15 @@ each-any_answer v d first (write_part bytes) answer v' p = p.any
 pub each-any : (v : StackRecord) (d first : ℕ) (part : Part) (answer : Result AnswerRecord IoFault) (v' : StackRecord) → EachPart v d first part answer v' → AnyPart v d first part answer v'
 each-any v d first part answer v' p = record { answered = each-any_answer v d first part answer v' p.answered; kept = p.kept }
 
-each-steady_answer : (v : StackRecord) (d first : ℕ) (part : Part) (answer : Result AnswerRecord IoFault) (v' : StackRecord) → AreSteady (leaves_of v.config (mapped d)) v.leaves → EachAnswer v d first part answer v'
-    → SteadyAnswer v d first part answer v'
-each-steady_answer v d first (read_part n) answer v' steady p = p.steady steady
-each-steady_answer v d first (bytes_part n) answer v' steady p = p.steady steady
-each-steady_answer v d first (write_part bytes) answer v' steady p = p.steady steady
+each-steady_answer : (v : StackRecord) (d first : ℕ) (part : Part) (answer : Result AnswerRecord IoFault) (v' : StackRecord) → AreSteady (leaves_of v.config (mapped d)) v.leaves → AgreesOn v.config (leaves_of v.config (mapped d)) (steady_images v.leaves)
+    → EachAnswer v d first part answer v' → SteadyAnswer v d first part answer v'
+each-steady_answer v d first (read_part n) answer v' steady agrees p = p.steady (record { steady = steady; agrees = λ meets. agrees })
+each-steady_answer v d first (bytes_part n) answer v' steady agrees p = p.steady (record { steady = steady; agrees = λ meets. agrees })
+each-steady_answer v d first (write_part bytes) answer v' steady agrees p = p.steady steady
 
-pub each-steady : (v : StackRecord) (d first : ℕ) (part : Part) (answer : Result AnswerRecord IoFault) (v' : StackRecord) → AreSteady (leaves_of v.config (mapped d)) v.leaves → EachPart v d first part answer v' → SteadyPart v d first part answer v'
-each-steady v d first part answer v' steady p = record { answered = each-steady_answer v d first part answer v' steady p.answered; kept = p.kept }
+pub each-steady : (v : StackRecord) (d first : ℕ) (part : Part) (answer : Result AnswerRecord IoFault) (v' : StackRecord) → AreSteady (leaves_of v.config (mapped d)) v.leaves → AgreesOn v.config (leaves_of v.config (mapped d)) (steady_images v.leaves)
+    → EachPart v d first part answer v' → SteadyPart v d first part answer v'
+each-steady v d first part answer v' steady agrees p = record { answered = each-steady_answer v d first part answer v' steady agrees p.answered; kept = p.kept }
 
 pub part_cost-work : (c : Configuration) (d : ℕ) (work : WorkRecord) (done n : ℕ) → part_cost c d (part_of_work work done n) ≤ n * work_cost c d work
 part_cost-work c d (reads got) done n = omega arith

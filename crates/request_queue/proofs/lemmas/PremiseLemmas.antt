@@ -20,7 +20,7 @@ use Rattle.request_queue.specs.declared.reply.Progress.TheVariants.{More, Done}
 use Rattle.request_queue.specs.declared.reply.Reply.{Reply}
 use Rattle.request_queue.specs.Requests.{RequestRecord}
 use Rattle.request_queue.specs.Flights.{FlightRecord}
-use Rattle.request_queue.specs.Parts.{Part, PartRelation, AnyPart, SteadyPart, EachPart, bytes_part, write_part, part_of_work, without_bytes, without_chains}
+use Rattle.request_queue.specs.Parts.{Part, PartRelation, AgreedPart, AnyPart, SteadyPart, EachPart, bytes_part, write_part, part_of_work, without_bytes, without_chains}
 use Rattle.request_queue.specs.World.{World, Event, submit, step, read_bytes, write_piece, load, remove_device, run, sync, Step, Begins, AnswersStep, Serves, ReadsBytes, PieceWritten, LoadsText, Removes, Syncs, EndsRequest, at_once, later, Runs}
 use Rattle.request_queue.specs.Runs.{Turn, AreTurns, last}
 use Rattle.request_queue.proofs.lemmas.PartLemmas.{any-keeps, each-any, each-steady, steady-any-part}
@@ -129,8 +129,11 @@ pass-any v d first part answer v' h p = (each-any v d first part answer v' p, tt
 outlives-steady : OutlivesSyncs AllSteady
 outlives-steady = record { synced = synced-steady; unsynced = unsynced-steady }
 
-pass-steady : Passes EachPart SteadyPart AllSteady
-pass-steady v d first part answer v' h p = (each-steady v d first part answer v' (some-steady (leaves_of v.config (mapped d)) v.leaves h) p, AllSteady-kept v.leaves v'.leaves (any-keeps v d first part answer v' (each-any v d first part answer v' p)).fixed h)
+pass-steady : Passes EachPart AgreedPart AllSteady
+pass-steady v d first part answer v' h p = (
+  λ agrees. each-steady v d first part answer v' (some-steady (leaves_of v.config (mapped d)) v.leaves h) agrees p,
+  AllSteady-kept v.leaves v'.leaves (any-keeps v d first part answer v' (each-any v d first part answer v' p)).fixed h,
+)
 
 pub serves-any : (w : World) (t : ℕ) (progress : Progress) (w' : World) → Serves EachPart w t progress w' → Serves AnyPart w t progress w'
 serves-any w t progress w' s = (serves-as EachPart AnyPart Anything pass-any outlives-any w t progress w' tt s).0
@@ -153,8 +156,8 @@ pub run-any : (w : World) (turns : List Turn) → AreTurns EachPart w turns → 
 run-any w turns r = (run-as EachPart AnyPart Anything pass-any outlives-any w turns tt r).0
 
 -- a run over steady leaves
-pub run-steady : (w : World) (turns : List Turn) → AllSteady w.stack.leaves → AreTurns EachPart w turns → AreTurns SteadyPart w turns × AllSteady (last w turns).stack.leaves
-run-steady w turns h r = run-as EachPart SteadyPart AllSteady pass-steady outlives-steady w turns h r
+pub run-steady : (w : World) (turns : List Turn) → AllSteady w.stack.leaves → AreTurns EachPart w turns → AreTurns AgreedPart w turns × AllSteady (last w turns).stack.leaves
+run-steady w turns h r = run-as EachPart AgreedPart AllSteady pass-steady outlives-steady w turns h r
 
 pass-steady-any : Passes SteadyPart AnyPart Anything
 pass-steady-any v d first part answer v' h p = (steady-any-part v d first part answer v' p, tt)

@@ -19,7 +19,7 @@ use Rattle.request_queue.specs.Flights.{FlightRecord, first_flight, next_flight}
 use Rattle.request_queue.specs.Parts.{PartRelation, AnyPart, SteadyPart, EachPart, AsksPiece, part_of_work, done_of}
 use Rattle.request_queue.specs.World.{World, world, Event, submit, step, read_bytes, write_piece, load, remove_device, run, sync, Step, Serves, Begins, EndsRequest, at_once, later, next_count}
 use Rattle.request_queue.specs.Runs.{Turn, AreTurns, last, turns_total, is_step, flight_of, served_for}
-use Rattle.request_queue.specs.Laws.{Passage, passage, passages, ending_answer, answer_at_last, IsFlightServed, waits, goes_on, finishes, fails, IsPassageOver, RequestLaw, RunLaw, is_refusal, TurnLaw}
+use Rattle.request_queue.specs.Laws.{AgreesBefore, Passage, passage, passages, ending_answer, answer_at_last, IsFlightServed, waits, goes_on, finishes, fails, IsPassageOver, RequestLaw, RunLaw, is_refusal, TurnLaw}
 use Rattle.request_queue.proofs.lemmas.TicketLemmas.{test-same, at-ticket, find-at, find-changed, find-removed}
 use Rattle.request_queue.proofs.lemmas.PremiseLemmas.{step-any, step-on, run-any}
 use Rattle.request_queue.proofs.lemmas.PartLemmas.{each-steady}
@@ -196,21 +196,22 @@ passages-on these t v (x ∷ more) steady r = by (is_step t x.event) refl (passa
     by false is all = rw is all
 
 -- what holds of each step holds of it over steady leaves
-asks-steady : (c : Configuration) (f : FlightRecord) (p : Passage) (answer : Result AnswerRecord IoFault) → p.before.config ≡ c → AreSteady (leaves_of c (mapped f.rest.device.0)) p.before.leaves
+asks-steady : (c : Configuration) (f : FlightRecord) (p : Passage) (answer : Result AnswerRecord IoFault) → p.before.config ≡ c → AreSteady (leaves_of c (mapped f.rest.device.0)) p.before.leaves → AgreesBefore c f.rest.device.0 p
     → AsksPiece EachPart p.before f answer p.after → AsksPiece SteadyPart p.before f answer p.after
-asks-steady c f p answer same steady asks =
+asks-steady c f p answer same steady agrees asks =
     each-steady p.before f.rest.device.0 f.rest.first (part_of_work f.work (done_of f) (piece_len p.before.config f.rest)) answer p.after
-    (subst (λ (x : Configuration). AreSteady (leaves_of x (mapped f.rest.device.0)) p.before.leaves) (sym same) steady) asks
+    (subst (λ (x : Configuration). AreSteady (leaves_of x (mapped f.rest.device.0)) p.before.leaves) (sym same) steady)
+    (subst (λ (x : Configuration). AgreesBefore x f.rest.device.0 p) (sym same) agrees) asks
 
-steady-served : (c : Configuration) (f : FlightRecord) (ps : List Passage) (answer : Option (Result Reply IoFault)) → IsFlightServed EachPart f ps answer → All (IsPassageOver c) ps → All (IsOn (leaves_of c (mapped f.rest.device.0))) ps
+steady-served : (c : Configuration) (f : FlightRecord) (ps : List Passage) (answer : Option (Result Reply IoFault)) → IsFlightServed EachPart f ps answer → All (IsPassageOver c) ps → All (IsOn (leaves_of c (mapped f.rest.device.0))) ps → All (AgreesBefore c f.rest.device.0) ps
     → IsFlightServed SteadyPart f ps answer
-steady-served c f [] answer waits over on = waits
-steady-served c f (p ∷ more) answer (goes_on got asks less rest) over on =
-    goes_on got (asks-steady c f p (Ok got) (All-head (IsPassageOver c) p more over) (All-head (IsOn (leaves_of c (mapped f.rest.device.0))) p more on) asks) less
-    (steady-served c (next_flight f (piece_len p.before.config f.rest) got) more answer rest (All-tail (IsPassageOver c) p more over) (All-tail (IsOn (leaves_of c (mapped f.rest.device.0))) p more on))
-steady-served c f (p ∷ []) answer (finishes got asks end replies) over on =
-    finishes got (asks-steady c f p (Ok got) (All-head (IsPassageOver c) p [] over) (All-head (IsOn (leaves_of c (mapped f.rest.device.0))) p [] on) asks) end replies
-steady-served c f (p ∷ []) answer (fails {fault = fault} asks) over on = fails (asks-steady c f p (Err fault) (All-head (IsPassageOver c) p [] over) (All-head (IsOn (leaves_of c (mapped f.rest.device.0))) p [] on) asks)
+steady-served c f [] answer waits over on agrees = waits
+steady-served c f (p ∷ more) answer (goes_on got asks less rest) over on agrees =
+    goes_on got (asks-steady c f p (Ok got) (All-head (IsPassageOver c) p more over) (All-head (IsOn (leaves_of c (mapped f.rest.device.0))) p more on) (All-head (AgreesBefore c f.rest.device.0) p more agrees) asks) less
+    (steady-served c (next_flight f (piece_len p.before.config f.rest) got) more answer rest (All-tail (IsPassageOver c) p more over) (All-tail (IsOn (leaves_of c (mapped f.rest.device.0))) p more on) (All-tail (AgreesBefore c f.rest.device.0) p more agrees))
+steady-served c f (p ∷ []) answer (finishes got asks end replies) over on agrees =
+    finishes got (asks-steady c f p (Ok got) (All-head (IsPassageOver c) p [] over) (All-head (IsOn (leaves_of c (mapped f.rest.device.0))) p [] on) (All-head (AgreesBefore c f.rest.device.0) p [] agrees) asks) end replies
+steady-served c f (p ∷ []) answer (fails {fault = fault} asks) over on agrees = fails (asks-steady c f p (Err fault) (All-head (IsPassageOver c) p [] over) (All-head (IsOn (leaves_of c (mapped f.rest.device.0))) p [] on) (All-head (AgreesBefore c f.rest.device.0) p [] agrees) asks)
 
 -- what a request gets that was begun
 pub request-law : (w : World) (r : RequestRecord) (t : ℕ) (v : World) (turns : List Turn) → InOrder w → (b : Begins w r t v) → AreTurns EachPart v turns → RequestLaw w r t b.range v turns
@@ -223,10 +224,10 @@ request-law w r t v turns order b each =
     let over : All (IsPassageOver w.stack.config) (passages t v turns) = subst (λ (s : StackRecord). All (IsPassageOver s.config) (passages t v turns)) new.stack (one-configuration t v turns knows low) in
     record {
       any = any;
-      steady = λ steady.
+      steady = λ steady agrees.
           let these = leaves_of w.stack.config (mapped b.range.device.0) in
           steady-served w.stack.config (first_flight t b.range r) (passages t v turns) (answer_at_last t turns) (is-served EachPart step-any t v turns (first_flight t b.range r) knows new.flight each)
-          over (passages-on these t v turns (subst (λ (s : StackRecord). AreSteady these s.leaves) (sym new.stack) steady) each);
+          over (passages-on these t v turns (subst (λ (s : StackRecord). AreSteady these s.leaves) (sym new.stack) steady) each) agrees;
       config = over;
       steps = omega (arith, few, passages-count t v turns);
       pieces = λ n cut. few-pieces AnyPart w.stack.config (first_flight t b.range r) (passages t v turns) (answer_at_last t turns) n any over cut;

@@ -18,6 +18,14 @@ flags-push f runs r = flat_map-append (λ (r : Run). replicate r.count (f r)) ru
 pub marks-push : (runs : List Run) (r : Run) → marks (runs ++ r ∷ []) ≡ marks runs ++ replicate r.count r.had
 marks-push runs r = flags-push (λ (r : Run). r.had) runs r
 
+-- as many sectors are bad or not as were recovered or not
+pub losts-length : (runs : List Run) → length (losts runs) ≡ length (marks runs)
+losts-length [] = refl
+losts-length (run ∷ more) =
+    length-append (replicate run.count run.lost) (losts more) ∙ ap (λ (n : ℕ). n + length (losts more)) (length-replicate {A = Bool} run.count run.lost)
+    ∙ ap (λ (n : ℕ). run.count + n) (losts-length more)
+    ∙ ap (λ (n : ℕ). n + length (marks more)) (sym (length-replicate {A = Bool} run.count run.had)) ∙ sym (length-append (replicate run.count run.had) (marks more))
+
 length-push : (runs : List Run) (r : Run) → length (marks (runs ++ r ∷ [])) ≡ length (marks runs) + r.count
 length-push runs r = ap length (marks-push runs r) ∙ length-append (marks runs) (replicate r.count r.had) ∙ ap (λ (n : ℕ). length (marks runs) + n) (length-replicate {A = Bool} r.count r.had)
 

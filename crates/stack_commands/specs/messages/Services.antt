@@ -15,4 +15,4 @@ service_message service.WriteFault = None
 
 -- requests that ended with a fault
 abbrev pub faults_message : List ℕ
-faults_message = codes "requests of the client failed: 'scan' on the same stack prints the sectors"
+faults_message = codes "requests of the client failed: 'scan' on the same stack prints the sectors that can't be read"

@@ -34,7 +34,7 @@ pub fn ending_message(fault: CommandFault<'_>) -> Option<&'static str>
         CommandFault::Session(_) => None,
         CommandFault::Service(fault) => service_message(fault),
         CommandFault::Faults(_) => Some(
-            "requests of the client failed: 'scan' on the same stack prints the sectors",
+            "requests of the client failed: 'scan' on the same stack prints the sectors that can't be read",
         ),
     }
 }

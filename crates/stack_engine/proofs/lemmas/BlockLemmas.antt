@@ -21,7 +21,7 @@ use Rattle.stack_meaning.specs.Kept.{IsKept, AllKept}
 use Rattle.stack_meaning.specs.Leaves.{steady_images, AreSteady, AreRead}
 use Rattle.stack_meaning.specs.Places.{Place, run_expected}
 use Rattle.stack_meaning.specs.Reading.{Gets}
-use Rattle.stack_lines.specs.Walks.{DataBlock, base_said, chain_expected, sources_of, GetsChain}
+use Rattle.stack_lines.specs.Walks.{AgreesAt, DataBlock, base_said, chain_expected, sources_of, GetsChain}
 use Rattle.stack_meaning.proofs.lemmas.LeafListLemmas.{AreRead-none}
 use Rattle.stack_meaning.proofs.lemmas.SpanLemmas.{span_block, span_fails}
 use Rattle.stack_meaning.proofs.lemmas.RunLemmas.{fault_passes}
@@ -89,14 +89,14 @@ distinct-push found x none distinct a b y lower below same =
 
 -- ---- a chain answers a read
 
--- the sectors of data block b from sector w of its line on, the l-th of device d, as a place
-abbrev pub block_place : DataBlock → ℕ × ℕ → ℕ → ℕ → Place
-block_place b at w cost = record { said = λ j. verity_said (base_said b) at.0 at.1 b.verity (w + j); cost = cost; leaves = (chain_expected b).leaves }
+-- the sectors of data block b from sector w of its line on, the l-th of device d, as a place whose images agree so
+abbrev pub block_place : DataBlock → ℕ × ℕ → ℕ → ℕ → (Images → Type 0) → Place
+block_place b at w cost agrees = record { said = λ j. verity_said (base_said b) at.0 at.1 b.verity (w + j); cost = cost; leaves = (chain_expected b).leaves; agrees = agrees }
 
 abbrev pub entry_in : DataBlock → ℕ × ℕ → Entry
 entry_in b at = (at.0, at.1, b.index)
 
-module _ (b : DataBlock) (at : ℕ × ℕ) (w n cost : ℕ) (index : b.index ≡ w / block_sectors b.verity) (within : w % block_sectors b.verity + n ≤ block_sectors b.verity) (whole : 512 * block_sectors b.verity ≡ b.verity.data_block) where
+module _ (b : DataBlock) (at : ℕ × ℕ) (w n cost : ℕ) (agrees : Images → Type 0) (up : (images : Images) → agrees images → AgreesAt b images) (index : b.index ≡ w / block_sectors b.verity) (within : w % block_sectors b.verity + n ≤ block_sectors b.verity) (whole : 512 * block_sectors b.verity ≡ b.verity.data_block) where
   part_is : (content : List ℕ) (j : ℕ) → j < n → part (take (512 * n) (drop (512 * (w % block_sectors b.verity)) content)) j ≡ content_part b.verity (w + j) content
   part_is content j h = part-run content (w % block_sectors b.verity) n j h ∙ ap (part content) (sym (same_within (block_sectors b.verity) w j (omega (arith, h, within))))
 
@@ -104,18 +104,18 @@ module _ (b : DataBlock) (at : ℕ × ℕ) (w n cost : ℕ) (index : b.index ≡
   index_is j h = same_block (block_sectors b.verity) w j (omega (arith, h, within)) ∙ sym index
 
   means_is : (images : Images) (j : ℕ) → j < n
-      → ((block_place b at w cost).said j).means images ≡ then_outcome ((chain_expected b).means images) (λ block. Ok (content_part b.verity (w + j) block))
+      → ((block_place b at w cost agrees).said j).means images ≡ then_outcome ((chain_expected b).means images) (λ block. Ok (content_part b.verity (w + j) block))
   means_is images j h =
       ap (λ (k : ℕ). then_outcome (verified_block b.verity (sources_of b images) k) (λ block. Ok (content_part b.verity (w + j) block)))
       (index_is j h)
 
   -- the sectors of a good chain that is there
-  pub chain_fills : {old new : List Device} (chains : List FoundRecord) (x : FoundRecord) {bytes : List ℕ} → AreRead old (n * cost) new
-      → (AreSteady (chain_expected b).leaves old → (chain_expected b).means (steady_images old) ≡ Ok x.chain.content)
+  pub chain_fills : {old new : List Device} (chains : List FoundRecord) (x : FoundRecord) {bytes : List ℕ} → 0 < n → AreRead old (n * cost) new
+      → (AreSteady (chain_expected b).leaves old → agrees (steady_images old) → (chain_expected b).means (steady_images old) ≡ Ok x.chain.content)
       → IsGood (tree_of b.verity) b.verity.salt b.verity.root x.chain → found_entry x ≡ entry_in b at → Contains chains x
       → bytes ≡ take (512 * n) (drop (512 * (w % block_sectors b.verity)) x.chain.content)
-      → Gets (run_expected (block_place b at w cost) chains 0 n) old new (Ok bytes)
-  chain_fills {old = old} chains x {bytes = bytes} moved exact good here given is =
+      → Gets (run_expected (block_place b at w cost agrees) chains 0 n) old new (Ok bytes)
+  chain_fills {old = old} chains x {bytes = bytes} some moved exact good here given is =
       let content : List ℕ = x.chain.content in
       let size : length content ≡ 512 * block_sectors b.verity = length-content b.verity x.chain good ∙ sym whole in
       record {
@@ -128,10 +128,10 @@ module _ (b : DataBlock) (at : ℕ × ℕ) (w n cost : ℕ) (index : b.index ≡
             ap (λ (y : List ℕ). part y j) is ∙ part_is content j h ∙ (let e : w + j ≡ w + (0 + j) = omega arith in ap (λ (k : ℕ). content_part b.verity k content) e),
           );
         };
-        exact = λ steady.
-            span_block (λ j. ((block_place b at w cost).said j).means (steady_images old)) content 0 (w % block_sectors b.verity) n
+        exact = λ sure.
+            span_block (λ j. ((block_place b at w cost agrees).said j).means (steady_images old)) content 0 (w % block_sectors b.verity) n
             (λ j h. means_is (steady_images old) (0 + j) (omega (arith, h))
-            ∙ ap (λ (y : Outcome). then_outcome y (λ block. Ok (content_part b.verity (w + (0 + j)) block))) (exact steady)
+            ∙ ap (λ (y : Outcome). then_outcome y (λ block. Ok (content_part b.verity (w + (0 + j)) block))) (exact sure.steady (sure.agrees (0, some, inl refl)))
             ∙ ap (λ (k : ℕ). Ok (part content k)) (same_within (block_sectors b.verity) w (0 + j) (omega (arith, h, within)) ∙ let e : w % block_sectors b.verity + (0 + j) ≡ w % block_sectors b.verity + j = omega arith in e))
             (omega (arith, size, within))
             ∙ ap Ok (sym is);
@@ -139,12 +139,13 @@ module _ (b : DataBlock) (at : ℕ × ℕ) (w n cost : ℕ) (index : b.index ≡
 
   -- a walk that ended by a fault
   pub block_fails : {old new : List Device} (chains : List FoundRecord) (fault : IoFault) → 0 < n → (chain_expected b).cost ≤ cost → GetsChain b old new (Err fault)
-      → Gets (run_expected (block_place b at w cost) chains 0 n) old new (Err fault)
+      → Gets (run_expected (block_place b at w cost agrees) chains 0 n) old new (Err fault)
   block_fails {old = old} chains fault some most p =
-      fault_passes {wanted = chain_expected b} {wanted' = run_expected (block_place b at w cost) chains 0 n} fault p (AreRead-none 0 old)
+      fault_passes {wanted = chain_expected b} {wanted' = run_expected (block_place b at w cost agrees) chains 0 n} fault p (AreRead-none 0 old)
       (omega (arith, most, mul-le-mul_right cost some))
       (λ x meets. (0, some, subst (λ (k : ℕ). BlockMeets b.verity (λ s. (b.on_data.said s).meets) (λ s. (b.on_hash.said s).meets) k x) (sym (index_is (0 + 0) some)) meets))
       (λ i is. is)
-      (λ steady x is.
-      span_fails (λ j. ((block_place b at w cost).said j).means (steady_images old)) 0 n x some
+      up
+      (λ sure x is.
+      span_fails (λ j. ((block_place b at w cost agrees).said j).means (steady_images old)) 0 n x some
       (means_is (steady_images old) 0 some ∙ ap (λ (y : Outcome). then_outcome y (λ block. Ok (content_part b.verity (w + 0) block))) is))

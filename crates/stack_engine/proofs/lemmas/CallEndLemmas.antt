@@ -1,14 +1,16 @@
--- The calls of a read or a write end at the first one that fails.
-use Rattle.std.proofs.Common.{ℕ, List, [], ◌∷◌, ◌++◌, Result, Ok, Err, refl}
+-- Without parity the calls of a read or a write end at the first one that fails.
+use Rattle.std.proofs.Common.{◌≡◌, ℕ, List, [], ◌∷◌, ◌++◌, Option, Some, None, Result, Ok, Err, true, false, refl, sym, ap, ◌∙◌}
+use Rattle.std.specs.Prelude.{is_some}
+use Rattle.dm_table.specs.declared.parity.Parity.{Parity}
 use Rattle.stack_rules.specs.Records.{Configuration}
-use Rattle.stack_meaning.specs.declared.fault.Fault.{Fault}
 use Rattle.stack_meaning.specs.declared.fault.IoFault.{IoFault}
 use Rattle.stack_meaning.specs.declared.fault.IoFault.TheVariants as io
 use Rattle.stack_meaning.specs.Outcomes.{mismatch}
 use Rattle.stack_rules.specs.Trees.{zero_block}
-use Rattle.stack_engine.specs.Healing.{healed_result}
+use Rattle.stack_engine.specs.Healing.{HasNoParity, IsHealed, healed_result}
 use Rattle.stack_engine.specs.LeafCalls.{LeafCall, AllLeafCallsSucceeded, NoneAfterFailure, EndAtFailure}
 use Rattle.stack_engine.specs.SectorCalls.{bytes_before, ReadOf, ReadCalls, WriteTo, WriteCalls, leaf_read, leaf_unread, none_read, line_read, line_unread, units_read, units_unread, part_read, part_unread, zeros_read, fails_read, chain_found, data_read, data_unread, data_full, blocks_read, block_checked, block_differs, block_unread, block_full, hash_kept, hash_full, hash_lost, hash_read, way_down, way_stops, way_full, one_ignored, one_read, next_ignored, next_checked, next_healed, next_differs, together_read, together_unread, blocks_end, blocks_next, blocks_full, leaf_written, leaf_unwritten, none_written, line_written, line_unwritten, units_written, each_written, part_written, part_lost, none_stepped, step_written, step_unwritten, zeros_written, fails_written, one_healed, spare_none, spare_full, spare_checked, spare_differs, spare_unread, sums_past, sums_added, sums_unread, parity_added, parity_unread}
+use Rattle.stack_engine.proofs.lemmas.NoParityLemmas.{HasNone, served-none}
 
 all-append : (calls later : List LeafCall) → AllLeafCallsSucceeded calls → AllLeafCallsSucceeded later → AllLeafCallsSucceeded (calls ++ later)
 all-append [] later h k = k
@@ -55,78 +57,83 @@ ends-before xs (Err (io.Stack fault)) calls later h k = all-append calls later h
 ends-before xs (Err (io.Device i)) calls later h k = end-append calls later h k
 ends-before xs (Err io.NoMemory) calls later h k = all-append calls later h k
 
-ends-healed : (fault : Fault) (spare : Result (List ℕ) IoFault) (calls later : List LeafCall) → AllLeafCallsSucceeded calls → EndsAs spare later → EndsAs (healed_result fault spare) (calls ++ later)
-ends-healed fault (Ok x) calls later h k = all-append calls later h k
-ends-healed fault (Err (io.Stack vain)) calls later h k = all-append calls later h k
-ends-healed fault (Err (io.Device i)) calls later h k = end-append calls later h k
-ends-healed fault (Err io.NoMemory) calls later h k = all-append calls later h k
+clash : {parity : Option Parity} {q : Parity} {X : Type 0} → parity ≡ None → parity ≡ Some q → X
+clash none has = let other : None ≡ Some _ = sym none ∙ has in absurd cc
 
-reads-end : {c : Configuration} {what : ReadOf} {calls : List LeafCall} {from to : ℕ} {answer : Result (List ℕ) IoFault} → ReadCalls c what calls from to answer → EndsAs answer calls
-reads-end (leaf_read i s bytes) = (refl, tt)
-reads-end (leaf_unread i s bytes) = tt
-reads-end (none_read d s) = tt
-reads-end (line_read {calls = calls} {later = later} {xs = xs} {answer = answer} run a b) = ends-before xs answer calls later (reads-end a) (reads-end b)
-reads-end (line_unread run a) = reads-end a
-reads-end (units_read a) = reads-end a
-reads-end (units_unread a) = reads-end a
-reads-end (part_read n a) = reads-end a
-reads-end (part_unread n a) = reads-end a
-reads-end (zeros_read n) = tt
-reads-end (fails_read n) = tt
-reads-end (chain_found n chain number good) = tt
-reads-end (data_read n a) = reads-end a
-reads-end (data_unread n a) = reads-end a
-reads-end (data_full n a) = reads-end a
-reads-end (blocks_read a) = reads-end a
-reads-end (block_checked a same) = reads-end a
-reads-end (block_differs a other) = reads-end a
-reads-end (block_unread a) = reads-end a
-reads-end (block_full x) = tt
-reads-end (hash_kept x bytes is) = tt
-reads-end (hash_full x) = tt
-reads-end (hash_lost a) = reads-end a
-reads-end (hash_read a) = reads-end a
-reads-end (way_down {calls = calls} {later = later} {answer = answer} a b) = ends-append answer calls later (reads-end a) (reads-end b)
-reads-end (way_stops last next a) = reads-end a
-reads-end (way_full p l expected last next) = tt
-reads-end (one_ignored p expected last is) = tt
-reads-end (one_read last used settled a) = reads-end a
-reads-end (one_healed last {calls = calls} {later = later} {fault = fault} {spare = spare} used a b) = ends-healed fault spare calls later (reads-end a) (reads-end b)
-reads-end (next_ignored {p = p} last {calls = calls} {answer = answer} is a) = ends-before (zero_block p.verity) answer [] calls tt (reads-end a)
-reads-end (next_checked block last {calls = calls} {answer = answer} used is a) = ends-before block answer [] calls tt (reads-end a)
-reads-end (next_healed {spare = spare} block last {calls = calls} {later = later} {answer = answer} used len other a b) = ends-before spare answer calls later (reads-end a) (reads-end b)
-reads-end (next_differs left block ahead last {calls = calls} {vain = vain} used len other a) = ends-healed mismatch (Err vain) [] calls tt (reads-end a)
-reads-end (together_read {calls = calls} {later = later} {answer = answer} used row a b) = ends-append answer calls later (reads-end a) (reads-end b)
-reads-end (together_unread used row a) = reads-end a
-reads-end (blocks_end p ahead) = tt
-reads-end (blocks_next a) = reads-end a
-reads-end (blocks_full p left ahead) = tt
-reads-end (spare_none p expected none) = tt
-reads-end (spare_full p expected) = tt
-reads-end (spare_checked has a good) = reads-end a
-reads-end (spare_differs has a other) = reads-end a
-reads-end (spare_unread has a) = reads-end a
-reads-end (sums_past inside none a) = reads-end a
-reads-end (sums_added {calls = calls} {later = later} {answer = answer} inside at a b) = ends-append answer calls later (reads-end a) (reads-end b)
-reads-end (sums_unread sums inside at a) = reads-end a
-reads-end (parity_added sums on a) = reads-end a
-reads-end (parity_unread sums on a) = reads-end a
+ends-healed : (parity : Option Parity) (fault : IoFault) → parity ≡ None → IsHealed parity fault → (spare : Result (List ℕ) IoFault) (calls later : List LeafCall) → EndsAs (Err fault) calls → EndsAs spare later → EndsAs (healed_result fault spare) (calls ++ later)
+ends-healed parity (io.Stack fault) none heals (Ok x) calls later h k = all-append calls later h k
+ends-healed parity (io.Stack fault) none heals (Err (io.Stack vain)) calls later h k = all-append calls later h k
+ends-healed parity (io.Stack fault) none heals (Err (io.Device i)) calls later h k = end-append calls later h k
+ends-healed parity (io.Stack fault) none heals (Err io.NoMemory) calls later h k = all-append calls later h k
+ends-healed parity (io.Device i) none heals spare calls later h k = let both : false ≡ true = sym (ap is_some none) ∙ heals in absurd cc
+ends-healed parity io.NoMemory none heals spare calls later h k = let both : false ≡ true = heals in absurd cc
 
-pub reads-ended : {c : Configuration} {what : ReadOf} {calls : List LeafCall} {from to : ℕ} {answer : Result (List ℕ) IoFault} → ReadCalls c what calls from to answer → EndAtFailure answer calls
-reads-ended {calls = calls} {answer = answer} h = as-ended answer calls (reads-end h)
+reads-end : {c : Configuration} {what : ReadOf} {calls : List LeafCall} {from to : ℕ} {answer : Result (List ℕ) IoFault} → HasNoParity c → ReadCalls c what calls from to answer → HasNone what → EndsAs answer calls
+reads-end none (leaf_read i s bytes) plain = (refl, tt)
+reads-end none (leaf_unread i s bytes) plain = tt
+reads-end none (none_read d s) plain = tt
+reads-end none (line_read {calls = calls} {later = later} {xs = xs} {answer = answer} run a b) plain = ends-before xs answer calls later (reads-end none a (served-none none run.served)) (reads-end none b tt)
+reads-end none (line_unread run a) plain = reads-end none a (served-none none run.served)
+reads-end none (units_read a) plain = reads-end none a tt
+reads-end none (units_unread a) plain = reads-end none a tt
+reads-end none (part_read n a) plain = reads-end none a tt
+reads-end none (part_unread n a) plain = reads-end none a tt
+reads-end none (zeros_read n) plain = tt
+reads-end none (fails_read n) plain = tt
+reads-end none (chain_found n chain number good) plain = tt
+reads-end none (data_read n a) plain = reads-end none a plain
+reads-end none (data_unread n a) plain = reads-end none a plain
+reads-end none (data_full n a) plain = reads-end none a plain
+reads-end none (blocks_read a) plain = reads-end none a plain
+reads-end none (block_checked a same) plain = reads-end none a tt
+reads-end none (block_differs a other) plain = reads-end none a tt
+reads-end none (block_unread a) plain = reads-end none a tt
+reads-end none (block_full x) plain = tt
+reads-end none (hash_kept x bytes is) plain = tt
+reads-end none (hash_full x) plain = tt
+reads-end none (hash_lost a) plain = reads-end none a tt
+reads-end none (hash_read a) plain = reads-end none a tt
+reads-end none (way_down {calls = calls} {later = later} {answer = answer} a b) plain = ends-append answer calls later (reads-end none a tt) (reads-end none b plain)
+reads-end none (way_stops last next a) plain = reads-end none a tt
+reads-end none (way_full p l expected last next) plain = tt
+reads-end none (one_ignored p expected last is) plain = tt
+reads-end none (one_read last used settled a) plain = reads-end none a tt
+reads-end none (one_healed {p = p} last {calls = calls} {later = later} {fault = fault} {spare = spare} used heals a b) plain = ends-healed p.verity.parity fault plain heals spare calls later (reads-end none a tt) (reads-end none b plain)
+reads-end none (next_ignored {p = p} last {calls = calls} {answer = answer} is a) plain = ends-before (zero_block p.verity) answer [] calls tt (reads-end none a plain)
+reads-end none (next_checked block last {calls = calls} {answer = answer} used is a) plain = ends-before block answer [] calls tt (reads-end none a plain)
+reads-end none (next_healed {spare = spare} block last {calls = calls} {later = later} {answer = answer} used len other a b) plain = ends-before spare answer calls later (reads-end none a plain) (reads-end none b plain)
+reads-end none (next_differs {p = p} left block ahead last {calls = calls} {vain = vain} used len other a) plain = ends-healed p.verity.parity (io.Stack mismatch) plain refl (Err vain) [] calls tt (reads-end none a plain)
+reads-end none (together_read {calls = calls} {later = later} {answer = answer} used row a b) plain = ends-append answer calls later (reads-end none a tt) (reads-end none b plain)
+reads-end none (together_unread used row a) plain = reads-end none a tt
+reads-end none (blocks_end p ahead) plain = tt
+reads-end none (blocks_next a) plain = reads-end none a plain
+reads-end none (blocks_full p left ahead) plain = tt
+reads-end none (spare_none p expected lacks) plain = tt
+reads-end none (spare_full p expected) plain = tt
+reads-end none (spare_checked has a good) plain = clash plain has
+reads-end none (spare_differs has a other) plain = clash plain has
+reads-end none (spare_unread has a) plain = clash plain has
+reads-end none (sums_past inside past a) plain = absurd plain
+reads-end none (sums_added inside at a b) plain = absurd plain
+reads-end none (sums_unread sums inside at a) plain = absurd plain
+reads-end none (parity_added sums on a) plain = absurd plain
+reads-end none (parity_unread sums on a) plain = absurd plain
 
-pub writes-ended : {c : Configuration} {to : WriteTo} {bytes : List ℕ} {calls : List LeafCall} {result : Result Unit IoFault} → WriteCalls c to bytes calls result → EndAtFailure result calls
-writes-ended (leaf_written i s bytes) = (refl, tt)
-writes-ended (leaf_unwritten i s bytes) = tt
-writes-ended (none_written d s) = tt
-writes-ended {result = result} (line_written {calls = calls} {later = later} run width a b) = ended-append result calls later (writes-ended a) (writes-ended b)
-writes-ended (line_unwritten more run width a) = writes-ended a
-writes-ended (units_written a) = writes-ended a
-writes-ended (each_written some a) = writes-ended a
-writes-ended {result = result} (part_written {calls = calls} {later = later} a b) = ended-append result calls later (reads-ended a) (writes-ended b)
-writes-ended (part_lost bytes a) = reads-ended a
-writes-ended (none_stepped k x s) = tt
-writes-ended {result = result} (step_written {calls = calls} {later = later} width a b) = ended-append result calls later (writes-ended a) (writes-ended b)
-writes-ended (step_unwritten more width a) = writes-ended a
-writes-ended (zeros_written bytes) = tt
-writes-ended (fails_written bytes) = tt
+pub reads-ended : {c : Configuration} {what : ReadOf} {calls : List LeafCall} {from to : ℕ} {answer : Result (List ℕ) IoFault} → HasNoParity c → HasNone what → ReadCalls c what calls from to answer → EndAtFailure answer calls
+reads-ended {calls = calls} {answer = answer} none plain h = as-ended answer calls (reads-end none h plain)
+
+pub writes-ended : {c : Configuration} {to : WriteTo} {bytes : List ℕ} {calls : List LeafCall} {result : Result Unit IoFault} → HasNoParity c → WriteCalls c to bytes calls result → EndAtFailure result calls
+writes-ended none (leaf_written i s bytes) = (refl, tt)
+writes-ended none (leaf_unwritten i s bytes) = tt
+writes-ended none (none_written d s) = tt
+writes-ended {result = result} none (line_written {calls = calls} {later = later} run width a b) = ended-append result calls later (writes-ended none a) (writes-ended none b)
+writes-ended none (line_unwritten more run width a) = writes-ended none a
+writes-ended none (units_written a) = writes-ended none a
+writes-ended none (each_written some a) = writes-ended none a
+writes-ended {result = result} none (part_written {calls = calls} {later = later} a b) = ended-append result calls later (reads-ended none tt a) (writes-ended none b)
+writes-ended none (part_lost bytes a) = reads-ended none tt a
+writes-ended none (none_stepped k x s) = tt
+writes-ended {result = result} none (step_written {calls = calls} {later = later} width a b) = ended-append result calls later (writes-ended none a) (writes-ended none b)
+writes-ended none (step_unwritten more width a) = writes-ended none a
+writes-ended none (zeros_written bytes) = tt
+writes-ended none (fails_written bytes) = tt

@@ -20,7 +20,7 @@ use Rattle.stack_engine.specs.Laws.{IsSha256Collision}
 use Rattle.stack_engine.proofs.lemmas.FormattedLemmas.{block-low, data-shown, facts, line-is, line-walked, sector-shown, shown_block}
 
 -- two blocks of one digest
-digest-collides : (v : Verity) (other block : List ℕ) → other ≢ block → digest v.salt other ≡ digest v.salt block → IsSha256Collision (v.salt ++ other) (v.salt ++ block)
+pub digest-collides : (v : Verity) (other block : List ℕ) → other ≢ block → digest v.salt other ≡ digest v.salt block → IsSha256Collision (v.salt ++ other) (v.salt ++ block)
 unfolding digest
 digest-collides v other block differ same = record { differ = λ e. differ (append_cancel_left v.salt other block e); same = same }
 

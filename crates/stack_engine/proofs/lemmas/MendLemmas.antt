@@ -12,15 +12,15 @@ use Rattle.stack_meaning.specs.declared.fault.Fault.{Fault}
 use Rattle.stack_meaning.specs.declared.fault.IoFault.{IoFault}
 use Rattle.stack_meaning.specs.declared.fault.IoFault.TheVariants as io
 use Rattle.stack_meaning.specs.Blocks.{checked}
-use Rattle.stack_meaning.specs.Leaves.{steady_images, AreSteady, AreRead}
+use Rattle.stack_meaning.specs.Leaves.{steady_images, AreRead}
 use Rattle.stack_meaning.specs.Outcomes.{Images, Outcome, mismatch, then_outcome}
-use Rattle.stack_meaning.specs.Reading.{Gets}
+use Rattle.stack_meaning.specs.Reading.{Gets, IsCertain}
 use Rattle.stack_meaning.specs.Spares.{added_block, data_spare, restored_block, round_block, round_parity, summed_blocks, with_parity}
 use Rattle.stack_meaning.proofs.lemmas.CheckedLemmas.{checked-same}
 use Rattle.stack_engine.proofs.HealLemmas.{checked-other}
-use Rattle.stack_meaning.proofs.lemmas.LeafListLemmas.{AreRead-none, AreRead-then, AreRead-more, AreSteady-kept, images-kept}
-use Rattle.stack_meaning.proofs.lemmas.RunLemmas.{fault_passes}
-use Rattle.stack_lines.specs.Walks.{DataBlock, block_leaves, sources_of, spare_cost, spare_expected}
+use Rattle.stack_meaning.proofs.lemmas.LeafListLemmas.{AreRead-none, AreRead-then, AreRead-more, images-kept}
+use Rattle.stack_meaning.proofs.lemmas.RunLemmas.{certain-for, fault_passes}
+use Rattle.stack_lines.specs.Walks.{DataBlock, sources_of, spare_cost, spare_expected}
 use Rattle.stack_engine.specs.Spares.{other_wanted, sector_cost, stored_wanted}
 
 -- ---- sums
@@ -48,13 +48,17 @@ summed-begin first at = refl
 
 -- ---- the spare
 
+-- what makes a spare of one digest certain makes one of any
+spare-sure : {b : DataBlock} {leaves : List Device} (expected : List ℕ) → IsCertain (spare_expected (λ (x : List ℕ). x) b expected) leaves → IsCertain (spare_expected (λ (x : List ℕ). x) b []) leaves
+spare-sure expected sure = record { steady = sure.steady; agrees = sure.agrees }
+
 -- the other blocks at the first m positions of the round were added
 pub record IsSummed (b : DataBlock) (q : Parity) (m : ℕ) (sums : List ℕ) (old new : List Device) : Type 0 where
   pub count : ℕ
   pub most : count ≤ m
   pub skipped : b.index / round_count q < m → count + 1 ≤ m
   pub moved : AreRead old (count * (block_sectors b.verity * sector_cost b)) new
-  pub exact : AreSteady (block_leaves b) old → summed_blocks (zero_block b.verity) (round_block b.verity q (sources_of b (steady_images old)) (b.index % round_count q) (b.index / round_count q)) m ≡ Ok sums
+  pub exact : IsCertain (spare_expected (λ (x : List ℕ). x) b []) old → summed_blocks (zero_block b.verity) (round_block b.verity q (sources_of b (steady_images old)) (b.index % round_count q) (b.index / round_count q)) m ≡ Ok sums
 
 module _ (b : DataBlock) (q : Parity) (has : b.verity.parity ≡ Some q) (some : 2 ≤ q.roots) (few : q.roots ≤ 24) (low : b.index / round_count q < 255 - q.roots) where
   abbrev at_images : Images → ℕ → Outcome
@@ -91,15 +95,15 @@ module _ (b : DataBlock) (q : Parity) (has : b.verity.parity ≡ Some q) (some :
     most = omega arith;
     skipped = λ below. absurd (omega (arith, below));
     moved = AreRead-none _ leaves;
-    exact = λ steady. summed-begin (zero_block b.verity) (at_images (steady_images leaves));
+    exact = λ sure. summed-begin (zero_block b.verity) (at_images (steady_images leaves));
   }
 
   module _ {m : ℕ} {sums : List ℕ} {old mid : List Device} (p : IsSummed b q m sums old mid) where
     -- the sums go on with what is meant at the next position
-    next-exact : AreSteady (block_leaves b) old → (x : Outcome) → (other_wanted b q m sums).means (steady_images mid) ≡ x → summed_blocks (zero_block b.verity) (at_images (steady_images old)) (suc m) ≡ x
-    next-exact steady x is =
+    next-exact : IsCertain (spare_expected (λ (x : List ℕ). x) b []) old → (x : Outcome) → (other_wanted b q m sums).means (steady_images mid) ≡ x → summed_blocks (zero_block b.verity) (at_images (steady_images old)) (suc m) ≡ x
+    next-exact sure x is =
         let images : steady_images mid ≡ steady_images old = images-kept p.moved in
-        summed-next (zero_block b.verity) (at_images (steady_images old)) m sums (p.exact steady)
+        summed-next (zero_block b.verity) (at_images (steady_images old)) m sums (p.exact sure)
         ∙ ap (λ (i : Images). then_outcome (at_images i m) (λ block. Ok (added_block sums block))) (sym images) ∙ is
 
     pub summed-more : {new : List Device} {added : List ℕ} → Gets (other_wanted b q m sums) mid new (Ok added) → IsSummed b q (suc m) added old new
@@ -125,8 +129,8 @@ module _ (b : DataBlock) (q : Parity) (has : b.verity.parity ≡ Some q) (some :
           }
     ]
       where
-        exact : Gets (other_wanted b q m sums) mid new (Ok added) → AreSteady (block_leaves b) old → summed_blocks (zero_block b.verity) (at_images (steady_images old)) (suc m) ≡ Ok added
-        exact got steady = next-exact steady (Ok added) (got.exact (AreSteady-kept old mid p.moved.moved.fixed steady))
+        exact : Gets (other_wanted b q m sums) mid new (Ok added) → IsCertain (spare_expected (λ (x : List ℕ). x) b []) old → summed_blocks (zero_block b.verity) (at_images (steady_images old)) (suc m) ≡ Ok added
+        exact got sure = next-exact sure (Ok added) (got.exact (certain-for (other_wanted b q m sums) p.moved (λ i on. on) (λ meets. tt) (λ images agrees. agrees) sure))
 
     -- a block that can't be read
     pub summed-fails : {new : List Device} (expected : List ℕ) (fault : IoFault) → m < 255 - q.roots → Gets (other_wanted b q m sums) mid new (Err fault) → Gets (spare_expected (λ (x : List ℕ). x) b expected) old new (Err fault)
@@ -138,10 +142,10 @@ module _ (b : DataBlock) (q : Parity) (has : b.verity.parity ≡ Some q) (some :
         let more : (p.count + 1) * unit ≡ p.count * unit + 1 * unit = add-mul p.count 1 unit in
         let most = unit-cost (p.count + 1) (omega (arith, p.most, inside, some)) in
         fault_passes {wanted = other_wanted b q m sums} {wanted' = spare_expected (λ (x : List ℕ). x) b expected} fault got p.moved (omega (arith, less, more, most))
-        (λ x meets. tt) (λ i on. on)
-        (λ steady x is.
+        (λ x meets. tt) (λ i on. on) (λ images agrees. agrees)
+        (λ sure x is.
         spare-summed (steady_images old) expected (Err x)
-        (summed-stays (zero_block b.verity) (at_images (steady_images old)) x (suc m) (255 - q.roots) (omega (arith, inside)) (next-exact steady (Err x) is)))
+        (summed-stays (zero_block b.verity) (at_images (steady_images old)) x (suc m) (255 - q.roots) (omega (arith, inside)) (next-exact (spare-sure expected sure) (Err x) is)))
 
   -- all of them
   module _ (expected : List ℕ) {sums : List ℕ} {m : ℕ} (all : m ≡ 255 - q.roots) {old mid : List Device} (p : IsSummed b q m sums old mid) where
@@ -152,16 +156,16 @@ module _ (b : DataBlock) (q : Parity) (has : b.verity.parity ≡ Some q) (some :
         let most = unit-cost (p.count + q.roots) (omega (arith, skipped, all, few)) in
         omega (arith, more, most, stored-units)
 
-    end-exact : AreSteady (block_leaves b) old → (x : Outcome) → (stored_wanted b q sums).means (steady_images mid) ≡ x → data_spare b.verity (sources_of b (steady_images old)) b.verity.parity b.index expected ≡ then_outcome x (checked b.verity.salt expected)
-    end-exact steady x is =
+    end-exact : IsCertain (spare_expected (λ (x : List ℕ). x) b expected) old → (x : Outcome) → (stored_wanted b q sums).means (steady_images mid) ≡ x → data_spare b.verity (sources_of b (steady_images old)) b.verity.parity b.index expected ≡ then_outcome x (checked b.verity.salt expected)
+    end-exact sure x is =
         let images : steady_images mid ≡ steady_images old = images-kept p.moved in
-        spare-summed (steady_images old) expected (Ok sums) (ap (λ (k : ℕ). summed_blocks (zero_block b.verity) (at_images (steady_images old)) k) (sym all) ∙ p.exact steady)
+        spare-summed (steady_images old) expected (Ok sums) (ap (λ (k : ℕ). summed_blocks (zero_block b.verity) (at_images (steady_images old)) k) (sym all) ∙ p.exact (spare-sure expected sure))
         ∙ ap (λ (y : Outcome). then_outcome y (checked b.verity.salt expected)) (ap (λ (i : Images). (stored_wanted b q sums).means i) (sym images) ∙ is)
 
     pub stored-fails : {new : List Device} (fault : IoFault) → Gets (stored_wanted b q sums) mid new (Err fault) → Gets (spare_expected (λ (x : List ℕ). x) b expected) old new (Err fault)
     stored-fails fault got =
         fault_passes {wanted = stored_wanted b q sums} {wanted' = spare_expected (λ (x : List ℕ). x) b expected} fault got p.moved all-cost
-        (λ x meets. tt) (λ i on. on) (λ steady x is. end-exact steady (Err x) is)
+        (λ x meets. tt) (λ i on. on) (λ images agrees. agrees) (λ sure x is. end-exact sure (Err x) is)
 
     -- it has the digest
     pub spare-ends : {new : List Device} {bytes : List ℕ} → Gets (stored_wanted b q sums) mid new (Ok bytes) → length bytes ≡ 512 * block_sectors b.verity → digest b.verity.salt bytes ≡ expected
@@ -169,7 +173,7 @@ module _ (b : DataBlock) (q : Parity) (has : b.verity.parity ≡ Some q) (some :
     spare-ends {bytes = bytes} got len good = record {
       moved = AreRead-more all-cost (AreRead-then p.moved got.moved);
       may = (len, good);
-      exact = λ steady. end-exact steady (Ok bytes) (got.exact (AreSteady-kept old mid p.moved.moved.fixed steady)) ∙ checked-same b.verity.salt expected bytes good;
+      exact = λ sure. end-exact sure (Ok bytes) (got.exact (certain-for (stored_wanted b q sums) p.moved (λ i on. on) (λ meets. tt) (λ images agrees. agrees) sure)) ∙ checked-same b.verity.salt expected bytes good;
     }
 
     -- it has another one
@@ -178,7 +182,7 @@ module _ (b : DataBlock) (q : Parity) (has : b.verity.parity ≡ Some q) (some :
     spare-differs {bytes = bytes} got other = record {
       moved = AreRead-more all-cost (AreRead-then p.moved got.moved);
       may = tt;
-      exact = λ steady. end-exact steady (Ok bytes) (got.exact (AreSteady-kept old mid p.moved.moved.fixed steady)) ∙ checked-other b.verity.salt expected bytes other;
+      exact = λ sure. end-exact sure (Ok bytes) (got.exact (certain-for (stored_wanted b q sums) p.moved (λ i on. on) (λ meets. tt) (λ images agrees. agrees) sure)) ∙ checked-other b.verity.salt expected bytes other;
     }
 
 -- without parity there is none
@@ -186,5 +190,5 @@ pub spare-none : (b : DataBlock) (expected : List ℕ) (leaves : List Device) �
 spare-none b expected leaves none = record {
   moved = AreRead-none _ leaves;
   may = tt;
-  exact = λ steady. ap (λ (o : Option Parity). data_spare b.verity (sources_of b (steady_images leaves)) o b.index expected) none;
+  exact = λ sure. ap (λ (o : Option Parity). data_spare b.verity (sources_of b (steady_images leaves)) o b.index expected) none;
 }

@@ -11,11 +11,12 @@ use Rattle.stack_meaning.specs.Meaning.{said_at}
 use Rattle.stack_meaning.specs.May.{MayRead, MayBe}
 use Rattle.stack_meaning.specs.Leaves.{AreRead}
 use Rattle.stack_meaning.specs.Places.{place_of, Expected, run_expected}
-use Rattle.stack_meaning.specs.Reading.{Gets, Reads}
+use Rattle.stack_meaning.specs.Reading.{Gets, MeetVerity, Reads}
 use Rattle.stack_engine.specs.Stacks.{StackRecord, AnswerRecord, IsSound}
 use Rattle.verified_cache.specs.Cache.{CachedBlock, CacheRecord}
 use Rattle.stack_lines.specs.Touches.{AsksOnly, leaves_of}
 use Rattle.stack_lines.proofs.lemmas.AskLemmas.{asks-touched}
+use Rattle.stack_engine.specs.Healing.{HasNoParity}
 use Rattle.stack_engine.specs.Pieces.{AnyPiece, EachPiece, stack_with}
 use Rattle.stack_meaning.proofs.lemmas.LeafListLemmas.{AreRead-none, leaves_kept}
 use Rattle.stack_meaning.proofs.lemmas.FoundLemmas.{HasMore, used-append, said_at-mono}
@@ -35,7 +36,7 @@ piece-sound c {old = old} {new = new} s a = record { loaded = s.loaded; serve = 
 
 -- what is expected of an answer that has chains, where bytes and chains are so
 abbrev answer_expected : (AnswerRecord → Type 0) → Configuration → Lower → ℕ → ℕ → Expected AnswerRecord
-answer_expected Is c lower first n = let run = run_expected (place_of c lower) [] first n in record { is = Is; faults = run.faults; bytes_of = λ answer. answer.bytes; means = run.means; cost = run.cost; leaves = run.leaves }
+answer_expected Is c lower first n = let run = run_expected (place_of c lower) [] first n in record { is = Is; faults = run.faults; bytes_of = λ answer. answer.bytes; means = run.means; cost = run.cost; leaves = run.leaves; agrees = run.agrees }
 
 -- of the answer of `read_piece`
 abbrev pub piece_expected : Configuration → Lower → ℕ → ℕ → Expected AnswerRecord
@@ -57,13 +58,13 @@ piece_ok c lower first n p distinct = record {
     read = record { run = p.got.may; used = rw p.grown.is p.grown.used };
     distinct = distinct (λ i j d low high. absurd (omega (arith, high)));
   };
-  exact = p.got.exact;
+  exact = λ sure. p.got.exact (record { steady = sure.steady; agrees = sure.agrees });
 }
 
 -- a fault is the same under any answer with these faults and this meaning
 fault_as : {A B : Type 0} {wanted : Expected A} (Is : B → Type 0) (bytes_of : B → List ℕ) {old new : List Device} (fault : IoFault)
-    → Gets wanted old new (Err fault) → Gets (record { is = Is; faults = wanted.faults; bytes_of = bytes_of; means = wanted.means; cost = wanted.cost; leaves = wanted.leaves }) old new (Err fault)
-fault_as Is bytes_of {old = old} fault p = fault_passes fault p (AreRead-none 0 old) (omega arith) (λ x h. h) (λ i h. h) (λ steady x is. is)
+    → Gets wanted old new (Err fault) → Gets (record { is = Is; faults = wanted.faults; bytes_of = bytes_of; means = wanted.means; cost = wanted.cost; leaves = wanted.leaves; agrees = wanted.agrees }) old new (Err fault)
+fault_as Is bytes_of {old = old} fault p = fault_passes fault p (AreRead-none 0 old) (omega arith) (λ x h. h) (λ i h. h) (λ images h. h) (λ sure x is. is)
 
 pub piece_err : (c : Configuration) (lower : Lower) (first n : ℕ) {old new : List Device} {chains : List FoundRecord} (fault : IoFault)
     → Reads c lower first n (record { old = old; new = new; before = []; after = chains }) (Err fault) → Gets (piece_expected c lower first n) old new (Err fault)
@@ -72,13 +73,13 @@ piece_err c lower first n fault p = fault_as (λ answer. MayBe c lower first n a
 -- ---- pieces one after another
 
 pieces-of : (c : Configuration) (lower : Lower) (first n : ℕ) {old new : List Device} {answer : AnswerRecord} → Gets (piece_expected c lower first n) old new (Ok answer) → Gets (pieces_expected c lower first n) old new (Ok answer)
-pieces-of c lower first n p = record { moved = p.moved; may = p.may.read; exact = p.exact }
+pieces-of c lower first n p = record { moved = p.moved; may = p.may.read; exact = λ sure. p.exact (record { steady = sure.steady; agrees = sure.agrees }) }
 
 -- the bytes as those of a buffer that was filled, with those chains
 filled-by : (c : Configuration) (lower : Lower) (first n : ℕ) {old new : List Device} {answer : AnswerRecord} (chains : List FoundRecord) → HasMore answer.chains chains
     → Gets (pieces_expected c lower first n) old new (Ok answer) → Gets (run_expected (place_of c lower) chains first n) old new (Ok answer.bytes)
 filled-by c lower first n {answer = answer} chains more p =
-    fill_more (place_of c lower) first n {u = answer.chains} {v = chains} (said_at-mono c lower) more (record { moved = p.moved; may = p.may.run; exact = p.exact })
+    fill_more (place_of c lower) first n {u = answer.chains} {v = chains} (said_at-mono c lower) more (record { moved = p.moved; may = p.may.run; exact = λ sure. p.exact (record { steady = sure.steady; agrees = sure.agrees }) })
 
 module _ (c : Configuration) (lower : Lower) (first a m : ℕ) {old mid new : List Device} {before : AnswerRecord} (p : Gets (pieces_expected c lower first a) old mid (Ok before)) where
   -- a piece after those before it
@@ -91,7 +92,7 @@ module _ (c : Configuration) (lower : Lower) (first a m : ℕ) {old mid new : Li
       record {
         moved = all.moved;
         may = record { run = all.may; used = used-append (λ s. (said_at c lower s).entries) first a m before.chains answer.chains p.may.used q.may.read.used };
-        exact = all.exact;
+        exact = λ sure. all.exact (record { steady = sure.steady; agrees = sure.agrees });
       }
 
   -- a piece that ends all n sectors by its fault
@@ -107,16 +108,16 @@ pub no-pieces : (c : Configuration) (lower : Lower) (first : ℕ) (leaves : List
 no-pieces c lower first leaves = record {
   moved = AreRead-none _ leaves;
   may = record { run = record { len = omega arith; sectors = λ j h. absurd (omega arith) }; used = All-nil _ };
-  exact = λ steady. refl;
+  exact = λ sure. refl;
 }
 
 -- a piece as the stack's own record
-pub each-piece : (c : Configuration) (d first n : ℕ) {old new : List Device} (answer : Result AnswerRecord IoFault) → Gets (piece_expected c (mapped d) first n) old new answer → AsksOnly (leaves_of c (mapped d)) old new answer
+pub each-piece : (c : Configuration) (d first n : ℕ) {old new : List Device} (answer : Result AnswerRecord IoFault) → Gets (piece_expected c (mapped d) first n) old new answer → AsksOnly (MeetVerity (said_at c (mapped d)) first n → HasNoParity c) (leaves_of c (mapped d)) old new answer
     → {before after : CacheRecord} {was is : ℕ} → after.capacity ≡ before.capacity → EachPiece (stack_with c old before was) d first n answer (stack_with c new after is)
 each-piece c d first n answer p asks {before = before} {after = after} {was = was} {is = is} capacity =
     let any : AnyPiece (stack_with c _ before was) d first n answer (stack_with c _ after is) = record { config = refl; capacity = capacity; moved = p.moved; may = p.may; touches = asks-touched asks; fails = asks.ends } in
-    record { any = any; steady = λ steady. record { any = any; exact = p.exact steady } }
+    record { any = any; steady = λ sure. record { any = any; exact = p.exact (record { steady = sure.steady; agrees = sure.agrees }) } }
 
 -- and back
 pub piece-got : {w w' : StackRecord} (d first n : ℕ) (answer : Result AnswerRecord IoFault) → EachPiece w d first n answer w' → Gets (piece_expected w.config (mapped d) first n) w.leaves w'.leaves answer
-piece-got d first n answer p = record { moved = p.any.moved; may = p.any.may; exact = λ steady. (p.steady steady).exact }
+piece-got d first n answer p = record { moved = p.any.moved; may = p.any.may; exact = λ sure. (p.steady (record { steady = sure.steady; agrees = sure.agrees })).exact }

@@ -50,7 +50,7 @@ reads-grow (way_stops last next a) = reads-grow a
 reads-grow (way_full p l expected last next) = omega arith
 reads-grow (one_ignored p expected last is) = omega arith
 reads-grow (one_read last used settled a) = reads-grow a
-reads-grow (one_healed {to = to} last {spare = spare} used a b) = omega (arith, reads-grow a, reads-grow b, spare-grows spare to)
+reads-grow (one_healed {to = to} last {spare = spare} used heals a b) = omega (arith, reads-grow a, reads-grow b, spare-grows spare to)
 reads-grow (next_ignored last is a) = reads-grow a
 reads-grow (next_checked block last used is a) = reads-grow a
 reads-grow (next_healed {mid = mid} block last used len other a b) = omega (arith, reads-grow a, reads-grow b, one-grows mid)

@@ -20,12 +20,13 @@ use Rattle.stack_meaning.specs.Outcomes.{Images, Outcome, span, then_outcome}
 use Rattle.stack_meaning.specs.Places.{Place, place_of, run_expected}
 use Rattle.stack_meaning.specs.Reading.{Gets}
 use Rattle.stack_meaning.specs.Spares.{added_block, covered_block, covered_start, parity_start, place_number, round_block, with_parity}
-use Rattle.stack_meaning.proofs.lemmas.LeafListLemmas.{AreRead-none, AreRead-more, AreSteady-within}
-use Rattle.stack_meaning.proofs.lemmas.RunLemmas.{fault_passes}
+use Rattle.stack_meaning.proofs.lemmas.LeafListLemmas.{AreRead-none, AreRead-more}
+use Rattle.stack_meaning.proofs.lemmas.RunLemmas.{certain-for, fault_passes}
 use Rattle.stack_lines.specs.declared.tree.Extent.{Extent}
 use Rattle.stack_lines.specs.declared.tree.Tree.{Tree}
 use Rattle.stack_lines.specs.Touches.{leaves_of}
-use Rattle.stack_lines.specs.Walks.{DataBlock, IsTreeOf, block_in, block_leaves, sources_of}
+use Rattle.stack_meaning.specs.Agreement.{AgreesOn}
+use Rattle.stack_lines.specs.Walks.{AgreesAt, DataBlock, IsTreeOf, block_in, block_leaves, sources_of}
 use Rattle.stack_lines.proofs.lemmas.StandingLemmas.{or-true}
 use Rattle.stack_lines.proofs.lemmas.TouchLemmas.{AreWithin, data-within, hash-within, parity-within}
 use Rattle.stack_lines.proofs.lemmas.VerityLineLemmas.{data-depth, hash-depth, parity-depth, parity-place, parity-there, place-named}
@@ -95,6 +96,7 @@ pub record IsOfLine (c : Configuration) (tree : Tree) (b : DataBlock) (lower : L
   pub leaves : (i : ℕ) → IsTrue (leaves_of c lower i) → IsTrue (block_leaves b i)
   pub within : AreWithin (leaves_of c lower) (leaves_of c (mapped tree.device.0))
   pub deep : depth c lower < depth c (mapped tree.device.0)
+  pub agrees : (images : Images) → AgreesAt b images → AgreesOn c (leaves_of c lower) images
 
 or-left : (x y : Bool) → IsTrue x → IsTrue (x || y)
 or-left x y is = ap (λ (b : Bool). b || y) is
@@ -118,6 +120,7 @@ module _ (c : Configuration) (v : Verity) (tree : Tree) (loaded : IsLoaded c) (i
     leaves = λ i on. or-left (b.on_data.leaves i) (b.on_hash.leaves i || b.on_parity.leaves i) (ap (λ (p : Place). p.leaves i) data-same ∙ on);
     within = data-within c v tree loaded is;
     deep = data-depth c v tree loaded is;
+    agrees = λ images all. subst (λ (p : Place). p.agrees images) data-same all.on_data;
   }
 
   hash-of : IsOfLine c tree b tree.hash
@@ -126,6 +129,7 @@ module _ (c : Configuration) (v : Verity) (tree : Tree) (loaded : IsLoaded c) (i
     leaves = λ i on. or-right (b.on_data.leaves i) (b.on_hash.leaves i || b.on_parity.leaves i) (or-left (b.on_hash.leaves i) (b.on_parity.leaves i) (ap (λ (p : Place). p.leaves i) hash-same ∙ on));
     within = hash-within c v tree loaded is;
     deep = hash-depth c v tree loaded is;
+    agrees = λ images all. subst (λ (p : Place). p.agrees images) hash-same all.on_hash;
   }
 
   pub parity-of : (lower : Lower) → tree.parity ≡ Some lower → IsOfLine c tree b lower
@@ -136,6 +140,7 @@ module _ (c : Configuration) (v : Verity) (tree : Tree) (loaded : IsLoaded c) (i
         leaves = λ i on. or-right (b.on_data.leaves i) (b.on_hash.leaves i || b.on_parity.leaves i) (or-right (b.on_hash.leaves i) (b.on_parity.leaves i) (ap (λ (p : Place). p.leaves i) same ∙ on));
         within = parity-within c v tree loaded is lower there;
         deep = parity-depth c v tree loaded is lower there;
+        agrees = λ images all. subst (λ (p : Place). p.agrees images) same all.on_parity;
       }
 
   -- a covered block is read where it is stored
@@ -188,7 +193,7 @@ module _ (c : Configuration) (v : Verity) (tree : Tree) (loaded : IsLoaded c) (i
     other-none sums leaves none len = record {
       moved = AreRead-none _ leaves;
       may = tt;
-      exact = λ steady. ap (λ (x : Outcome). then_outcome x (λ block. Ok (added_block sums block))) (other-means (steady_images leaves) ∙ ap (λ (o : Option Extent). extent_means c v o (steady_images leaves)) none)
+      exact = λ sure. ap (λ (x : Outcome). then_outcome x (λ block. Ok (added_block sums block))) (other-means (steady_images leaves) ∙ ap (λ (o : Option Extent). extent_means c v o (steady_images leaves)) none)
           ∙ ap Ok (added-zeros v.data_block sums len);
     }
 
@@ -212,13 +217,14 @@ module _ (c : Configuration) (v : Verity) (tree : Tree) (loaded : IsLoaded c) (i
       other-read {old = old} {block = block} gets = record {
         moved = AreRead-more other-cost gets.got.moved;
         may = tt;
-        exact = λ steady. other-exact (steady_images old) (Ok block) (gets.got.exact (AreSteady-within old (other-of e at).2.leaves steady));
+        exact = λ sure. other-exact (steady_images old) (Ok block)
+            (gets.got.exact (certain-for (run_expected (place_of c e.lower) gets.chains e.first n) {wanted' = other_wanted b q i sums} (AreRead-none 0 old) (other-of e at).2.leaves (λ meets. tt) (other-of e at).2.agrees sure));
       }
 
       pub other-unread : {old new : List Device} (fault : IoFault) → GetsBytes c e.lower e.first n old new (Err fault) → Gets (other_wanted b q i sums) old new (Err fault)
       other-unread {old = old} fault gets =
           fault_passes {wanted = run_expected (place_of c e.lower) gets.chains e.first n} {wanted' = other_wanted b q i sums} fault gets.got (AreRead-none 0 old) (omega (arith, other-cost))
-          (λ x meets. tt) (other-of e at).2.leaves (λ steady x is. other-exact (steady_images old) (Err x) is)
+          (λ x meets. tt) (other-of e at).2.leaves (other-of e at).2.agrees (λ sure x is. other-exact (steady_images old) (Err x) is)
 
   -- the parity of the round
   module _ (q : Parity) (sums : List ℕ) (at : Stored) (stored : IsStoredAt c (place_in v tree index) q at) (n : ℕ) (count : n ≡ at.sectors) where
@@ -242,10 +248,11 @@ module _ (c : Configuration) (v : Verity) (tree : Tree) (loaded : IsLoaded c) (i
     stored-read {old = old} {parity = parity} gets = record {
       moved = AreRead-more stored-cost gets.got.moved;
       may = tt;
-      exact = λ steady. stored-exact (steady_images old) (Ok parity) (gets.got.exact (AreSteady-within old (parity-of at.lower stored.on).leaves steady));
+      exact = λ sure. stored-exact (steady_images old) (Ok parity)
+          (gets.got.exact (certain-for (run_expected (place_of c at.lower) gets.chains at.first n) {wanted' = stored_wanted b q sums} (AreRead-none 0 old) (parity-of at.lower stored.on).leaves (λ meets. tt) (parity-of at.lower stored.on).agrees sure));
     }
 
     pub stored-unread : {old new : List Device} (fault : IoFault) → GetsBytes c at.lower at.first n old new (Err fault) → Gets (stored_wanted b q sums) old new (Err fault)
     stored-unread {old = old} fault gets =
         fault_passes {wanted = run_expected (place_of c at.lower) gets.chains at.first n} {wanted' = stored_wanted b q sums} fault gets.got (AreRead-none 0 old) (omega (arith, stored-cost))
-        (λ x meets. tt) (parity-of at.lower stored.on).leaves (λ steady x is. stored-exact (steady_images old) (Err x) is)
+        (λ x meets. tt) (parity-of at.lower stored.on).leaves (parity-of at.lower stored.on).agrees (λ sure x is. stored-exact (steady_images old) (Err x) is)

@@ -13,19 +13,21 @@ use Rattle.stack_rules.specs.Trees.{tree_of, block_sectors, zero_block}
 use Rattle.stack_meaning.specs.declared.fault.Fault.{Fault}
 use Rattle.stack_meaning.specs.declared.fault.IoFault.{IoFault}
 use Rattle.stack_meaning.specs.declared.fault.IoFault.TheVariants as io
-use Rattle.stack_meaning.specs.Outcomes.{Outcome, Images, then_outcome}
+use Rattle.stack_meaning.specs.Outcomes.{Outcome, Images, mismatch, then_outcome}
 use Rattle.stack_meaning.specs.Found.{FoundRecord}
 use Rattle.stack_meaning.specs.Blocks.{hash_sectors, hash_start, next_digest, checked, checked_span, is_ignored, data_block_at}
-use Rattle.stack_meaning.specs.Leaves.{steady_images, AreSteady, AreRead}
+use Rattle.stack_meaning.specs.Leaves.{steady_images, AreRead}
 use Rattle.stack_meaning.specs.Places.{Place, Expected, run_expected}
-use Rattle.stack_meaning.specs.Reading.{Gets}
+use Rattle.stack_meaning.specs.Reading.{Gets, IsCertain}
 use Rattle.stack_meaning.specs.Spares.{data_spare, healed_outcome}
-use Rattle.stack_engine.specs.Healing.{healed_result}
+use Rattle.stack_engine.specs.Healing.{IsHealed, healed_result}
+use Rattle.stack_engine.proofs.HealLemmas.{checked-other}
 use Rattle.stack_lines.specs.Walks.{checked_expected, DataBlock, block_leaves, means_below, data_expected, chain_expected, sources_of, spare_cost, spare_expected, GetsChain, IsWalked}
+use Rattle.stack_meaning.proofs.lemmas.AgreementLemmas.{agreed-restored}
 use Rattle.stack_meaning.proofs.lemmas.CheckedLemmas.{checked-same}
-use Rattle.stack_meaning.proofs.lemmas.LeafListLemmas.{AreRead-none, AreRead-then, AreRead-more, AreSteady-kept, AreSteady-within, failed_later, images-kept}
+use Rattle.stack_meaning.proofs.lemmas.LeafListLemmas.{AreRead-none, AreRead-then, AreRead-more, failed_earlier, failed_later, images-kept}
 use Rattle.stack_lines.proofs.lemmas.StandingLemmas.{or-true}
-use Rattle.stack_meaning.proofs.lemmas.RunLemmas.{fault_passes}
+use Rattle.stack_meaning.proofs.lemmas.RunLemmas.{certain-for, fault_passes}
 use Rattle.allocation.specs.Refusal.{IsOutOfMemory}
 use Rattle.stack_meaning.specs.Memory.{largest_allocation}
 
@@ -37,14 +39,22 @@ module _ {A : Type 0} (bytes_of : A → List ℕ) (place : Place) (first n : ℕ
   checked_ok x {bytes = bytes} is good p = record {
     moved = p.moved;
     may = (ap length is ∙ p.may.len, ap (digest salt) is ∙ good);
-    exact = λ steady. ap (λ (s : Outcome). then_outcome s (checked salt expected)) (p.exact steady) ∙ checked-same salt expected bytes good ∙ ap Ok (sym is);
+    exact = λ sure. ap (λ (s : Outcome). then_outcome s (checked salt expected)) (p.exact (record { steady = sure.steady; agrees = λ meets. sure.agrees (inl refl) })) ∙ checked-same salt expected bytes good ∙ ap Ok (sym is);
   }
 
   -- a read that a fault ended
   pub checked_err : (fault : IoFault) → Gets (run_expected place chains first n) old new (Err fault) → Gets (checked_expected bytes_of place first n salt expected) old new (Err fault)
   checked_err fault p =
       fault_passes {wanted = run_expected place chains first n} {wanted' = checked_expected bytes_of place first n salt expected} fault p (AreRead-none 0 old) (omega arith)
-      (λ x meets. inr meets) (λ i is. is) (λ steady x is. ap (λ (s : Outcome). then_outcome s (checked salt expected)) is)
+      (λ x meets. inr meets) (λ i is. is) (λ images agrees. agrees) (λ sure x is. ap (λ (s : Outcome). then_outcome s (checked salt expected)) is)
+
+  -- a block of another digest
+  pub checked_differs : {bytes : List ℕ} → (digest salt bytes ≡ expected → ⊥) → Gets (run_expected place chains first n) old new (Ok bytes) → Gets (checked_expected bytes_of place first n salt expected) old new (Err (io.Stack mismatch))
+  checked_differs {bytes = bytes} other p = record {
+    moved = p.moved;
+    may = inl refl;
+    exact = λ sure. ap (λ (s : Outcome). then_outcome s (checked salt expected)) (p.exact (record { steady = sure.steady; agrees = λ meets. sure.agrees (inl refl) })) ∙ checked-other salt expected bytes other;
+  }
 
 -- ---- the data block
 
@@ -60,13 +70,21 @@ data-in : (b : DataBlock) (i : ℕ) → IsTrue (b.on_data.leaves i) → IsTrue (
 data-in b i is = ap (λ (x : Bool). x || (b.on_hash.leaves i || b.on_parity.leaves i)) is
 
 module _ {A : Type 0} (bytes_of : A → List ℕ) (b : DataBlock) (expected : List ℕ) where
+  -- what makes the block certain makes its own read certain, and that of its spare
+  own-sure : {old mid : List Device} {m : ℕ} → AreRead old m mid → IsCertain (data_expected bytes_of b expected) old
+      → IsCertain (checked_expected bytes_of b.on_data (block_sectors b.verity * b.index) (block_sectors b.verity) b.verity.salt expected) mid
+  own-sure moved = certain-for (checked_expected bytes_of b.on_data (block_sectors b.verity * b.index) (block_sectors b.verity) b.verity.salt expected) moved (data-in b) (λ meets. inl refl) (λ images agrees. agrees.on_data)
+
+  spare-sure : {old mid : List Device} {m : ℕ} → AreRead old m mid → IsCertain (data_expected bytes_of b expected) old → IsCertain (spare_expected bytes_of b expected) mid
+  spare-sure moved = certain-for (spare_expected bytes_of b expected) moved (λ i on. on) (λ meets. inl refl) (λ images agrees. agrees)
+
   -- one that is ignored
   pub data_zeros : (leaves : List Device) (x : A) → 512 * block_sectors b.verity ≡ b.verity.data_block → is_ignored b.verity expected ≡ true → bytes_of x ≡ zero_block b.verity
       → Gets (data_expected bytes_of b expected) leaves leaves (Ok x)
   data_zeros leaves x whole zeros is = record {
     moved = AreRead-none _ leaves;
     may = (ap length is ∙ length-replicate {A = ℕ} b.verity.data_block 0 ∙ sym whole, ap (digest b.verity.salt) is ∙ ignored-digest b.verity expected zeros);
-    exact = λ steady. cond-true _ _ _ zeros ∙ ap Ok (sym is);
+    exact = λ sure. cond-true _ _ _ zeros ∙ ap Ok (sym is);
   }
 
   -- one that is read
@@ -76,37 +94,78 @@ module _ {A : Type 0} (bytes_of : A → List ℕ) (b : DataBlock) (expected : Li
   data_read {old = old} x other q = record {
     moved = AreRead-more (omega arith) q.moved;
     may = q.may;
-    exact = λ steady. cond-false _ _ _ other ∙ ap (λ (o : Outcome). healed_outcome o (data_spare b.verity (sources_of b (steady_images old)) b.verity.parity b.index expected)) (q.exact (AreSteady-within old (data-in b) steady));
+    exact = λ sure. cond-false _ _ _ other ∙ ap (λ (o : Outcome). healed_outcome o (data_spare b.verity (sources_of b (steady_images old)) b.verity.parity b.index expected)) (q.exact (own-sure (AreRead-none 0 old) sure));
   }
 
   module _ {old mid : List Device} (fault : Fault) (other : is_ignored b.verity expected ≡ false)
       (own : Gets (checked_expected bytes_of b.on_data (block_sectors b.verity * b.index) (block_sectors b.verity) b.verity.salt expected) old mid (Err (io.Stack fault))) where
-    healed-exact : AreSteady (block_leaves b) old → (x : Outcome) → data_spare b.verity (sources_of b (steady_images mid)) b.verity.parity b.index expected ≡ x
+    healed-exact : IsCertain (data_expected bytes_of b expected) old → (x : Outcome) → data_spare b.verity (sources_of b (steady_images mid)) b.verity.parity b.index expected ≡ x
         → (data_expected bytes_of b expected).means (steady_images old) ≡ healed_outcome (Err fault) x
-    healed-exact steady x is =
+    healed-exact sure x is =
         let images : steady_images mid ≡ steady_images old = images-kept own.moved in
         cond-false _ _ _ other
-        ∙ ap (λ (o : Outcome). healed_outcome o (data_spare b.verity (sources_of b (steady_images old)) b.verity.parity b.index expected)) (own.exact (AreSteady-within old (data-in b) steady))
+        ∙ ap (λ (o : Outcome). healed_outcome o (data_spare b.verity (sources_of b (steady_images old)) b.verity.parity b.index expected)) (own.exact (own-sure (AreRead-none 0 old) sure))
         ∙ ap (λ (o : Outcome). healed_outcome (Err fault) o) (ap (λ (i : Images). data_spare b.verity (sources_of b i) b.verity.parity b.index expected) (sym images) ∙ is)
 
     -- or by its spare
-    pub data_healed : {new : List Device} (spare : Result A IoFault) → Gets (spare_expected bytes_of b expected) mid new spare → Gets (data_expected bytes_of b expected) old new (healed_result fault spare)
+    pub data_healed : {new : List Device} (spare : Result A IoFault) → Gets (spare_expected bytes_of b expected) mid new spare → Gets (data_expected bytes_of b expected) old new (healed_result (io.Stack fault) spare)
     data_healed (Ok x) q = record {
       moved = AreRead-then own.moved q.moved;
       may = q.may;
-      exact = λ steady. healed-exact steady (Ok (bytes_of x)) (q.exact (AreSteady-kept old mid own.moved.moved.fixed steady));
+      exact = λ sure. healed-exact sure (Ok (bytes_of x)) (q.exact (spare-sure own.moved sure));
     }
     data_healed (Err (io.Stack vain)) q = record {
       moved = AreRead-then own.moved q.moved;
       may = own.may;
-      exact = λ steady. healed-exact steady (Err vain) (q.exact (AreSteady-kept old mid own.moved.moved.fixed steady));
+      exact = λ sure. healed-exact sure (Err vain) (q.exact (spare-sure own.moved sure));
     }
     data_healed (Err (io.Device i)) q = record {
       moved = AreRead-then own.moved q.moved;
       may = (q.may.0, failed_later own.moved.moved q.moved.moved q.may.1);
-      exact = λ steady. tt;
+      exact = λ sure. tt;
     }
-    data_healed (Err io.NoMemory) q = record { moved = AreRead-then own.moved q.moved; may = q.may; exact = λ steady. tt }
+    data_healed (Err io.NoMemory) q = record { moved = AreRead-then own.moved q.moved; may = q.may; exact = λ sure. tt }
+
+  -- a device failed: its spare is the block that is stored, or the device's fault stays
+  module _ {old mid : List Device} (leaf : ℕ) (other : is_ignored b.verity expected ≡ false)
+      (own : Gets (checked_expected bytes_of b.on_data (block_sectors b.verity * b.index) (block_sectors b.verity) b.verity.salt expected) old mid (Err (io.Device leaf))) where
+    restored-exact : (x : A) → IsCertain (data_expected bytes_of b expected) old → data_spare b.verity (sources_of b (steady_images mid)) b.verity.parity b.index expected ≡ Ok (bytes_of x)
+        → (data_expected bytes_of b expected).means (steady_images old) ≡ Ok (bytes_of x)
+    restored-exact x sure is =
+        let from = sources_of b (steady_images old) in
+        let spare : data_spare b.verity from b.verity.parity b.index expected ≡ Ok (bytes_of x) = ap (λ (i : Images). data_spare b.verity (sources_of b i) b.verity.parity b.index expected) (sym (images-kept own.moved)) ∙ is in
+        cond-false _ _ _ other ∙ go (checked_span from.on_data (block_sectors b.verity * b.index) (block_sectors b.verity) b.verity.salt expected) refl spare
+      where
+        go : (o : Outcome) → checked_span (sources_of b (steady_images old)).on_data (block_sectors b.verity * b.index) (block_sectors b.verity) b.verity.salt expected ≡ o
+            → data_spare b.verity (sources_of b (steady_images old)) b.verity.parity b.index expected ≡ Ok (bytes_of x)
+            → healed_outcome o (data_spare b.verity (sources_of b (steady_images old)) b.verity.parity b.index expected) ≡ Ok (bytes_of x)
+        go (Ok stored) there spare = ap Ok (sym (agreed-restored b.verity (sources_of b (steady_images old)) b.index expected stored (bytes_of x) (sure.agrees (inl refl)).own there spare))
+        go (Err fault) there spare = ap (healed_outcome (Err fault)) spare
+
+    device-stays : {new : List Device} {m : ℕ} → AreRead mid m new → m ≤ spare_cost b → Gets (data_expected bytes_of b expected) old new (Err (io.Device leaf))
+    device-stays more few = record {
+      moved = AreRead-more (omega (arith, few)) (AreRead-then own.moved more);
+      may = (own.may.0, failed_earlier more.moved own.may.1);
+      exact = λ sure. tt;
+    }
+
+    pub data_restored : {new : List Device} (spare : Result A IoFault) → Gets (spare_expected bytes_of b expected) mid new spare → Gets (data_expected bytes_of b expected) old new (healed_result (io.Device leaf) spare)
+    data_restored (Ok x) q = record {
+      moved = AreRead-then own.moved q.moved;
+      may = q.may;
+      exact = λ sure. restored-exact x sure (q.exact (spare-sure own.moved sure));
+    }
+    data_restored (Err (io.Stack vain)) q = device-stays q.moved (omega arith)
+    data_restored (Err (io.Device i)) q = device-stays q.moved (omega arith)
+    data_restored (Err io.NoMemory) q = record { moved = AreRead-then own.moved q.moved; may = q.may; exact = λ sure. tt }
+
+  -- whichever fault its own read ended in
+  pub data_answered : {old mid new : List Device} (own : IoFault) (spare : Result A IoFault) → IsHealed b.verity.parity own → is_ignored b.verity expected ≡ false
+      → Gets (checked_expected bytes_of b.on_data (block_sectors b.verity * b.index) (block_sectors b.verity) b.verity.salt expected) old mid (Err own) → Gets (spare_expected bytes_of b expected) mid new spare
+      → Gets (data_expected bytes_of b expected) old new (healed_result own spare)
+  data_answered (io.Stack fault) spare heals other own q = data_healed fault other own spare q
+  data_answered (io.Device leaf) spare heals other own q = data_restored leaf other own spare q
+  data_answered io.NoMemory spare heals other own q = let clash : false ≡ true = heals in absurd cc
 
 -- ---- the walk
 
@@ -122,21 +181,21 @@ abbrev hash_expected : {A : Type 0} → (A → List ℕ) → DataBlock → ℕ �
 hash_expected bytes_of b l expected = checked_expected bytes_of b.on_hash (hash_start b.verity l b.index) (hash_sectors b.verity) b.verity.salt expected
 
 -- the meaning goes on with what the next hash block means
-means-step : {A : Type 0} (bytes_of : A → List ℕ) (b : DataBlock) (l : ℕ) {expected : List ℕ} {path : List (List ℕ)} {old mid : List Device} → IsWalked b (suc l) expected path old mid → AreSteady (chain_expected b).leaves old
+means-step : {A : Type 0} (bytes_of : A → List ℕ) (b : DataBlock) (l : ℕ) {expected : List ℕ} {path : List (List ℕ)} {old mid : List Device} → IsWalked b (suc l) expected path old mid → IsCertain (chain_expected b) old
     → (x : Outcome) → (hash_expected bytes_of b l expected).means (steady_images mid) ≡ x
     → (chain_expected b).means (steady_images old) ≡ then_outcome x (λ block. means_below b (steady_images old) l (next_digest b.verity l b.index block))
-means-step bytes_of b l {expected = expected} {old = old} {mid = mid} p steady x is =
+means-step bytes_of b l {expected = expected} {old = old} {mid = mid} p sure x is =
     let images : steady_images mid ≡ steady_images old = images-kept p.moved in
-    p.exact steady
+    p.exact sure
     ∙ ap (λ (y : Outcome). then_outcome y (λ block. means_below b (steady_images old) l (next_digest b.verity l b.index block)))
     (ap (λ (m : Images). checked_span (λ s. (b.on_hash.said s).means m) (hash_start b.verity l b.index) (hash_sectors b.verity) b.verity.salt expected) (sym images) ∙ is)
 
 -- and with what the data block means
-means-end : {A : Type 0} (bytes_of : A → List ℕ) (b : DataBlock) {expected : List ℕ} {path : List (List ℕ)} {old mid : List Device} → IsWalked b 0 expected path old mid → AreSteady (chain_expected b).leaves old
+means-end : {A : Type 0} (bytes_of : A → List ℕ) (b : DataBlock) {expected : List ℕ} {path : List (List ℕ)} {old mid : List Device} → IsWalked b 0 expected path old mid → IsCertain (chain_expected b) old
     → (x : Outcome) → (data_expected bytes_of b expected).means (steady_images mid) ≡ x → (chain_expected b).means (steady_images old) ≡ x
-means-end bytes_of b {expected = expected} {old = old} {mid = mid} p steady x is =
+means-end bytes_of b {expected = expected} {old = old} {mid = mid} p sure x is =
     let images : steady_images mid ≡ steady_images old = images-kept p.moved in
-    p.exact steady
+    p.exact sure
     ∙ ap (λ (m : Images). data_block_at b.verity (sources_of b m) b.index expected) (sym images)
     ∙ is
 
@@ -160,7 +219,7 @@ module _ {A : Type 0} (bytes_of : A → List ℕ) (b : DataBlock) (l : ℕ) {exp
             let size : length block ≡ b.verity.hash_block = q.may.0 ∙ whole in
             subst (λ (y : List (List ℕ)). HangsFrom (tree_of b.verity) b.verity.salt b.index b.verity.root y content) (sym (append_assoc path (block ∷ []) rest))
             (p.hangs (block ∷ rest) content (omega (arith, h)) (size, q.may.1, subst (λ (e : List ℕ). HangsFrom (tree_of b.verity) b.verity.salt b.index e rest content) at hangs));
-        exact = λ steady. means-step bytes_of b l p steady (Ok block) (q.exact (AreSteady-within mid (hash-in b) (AreSteady-kept old mid p.moved.moved.fixed steady)));
+        exact = λ sure. means-step bytes_of b l p sure (Ok block) (q.exact (certain-for (hash_expected bytes_of b l expected) p.moved (hash-in b) (λ meets. inl refl) (λ images agrees. agrees.on_hash) sure));
       }
 
   -- a fault on the way down
@@ -171,7 +230,8 @@ module _ {A : Type 0} (bytes_of : A → List ℕ) (b : DataBlock) (l : ℕ) {exp
       (let most = levels_cost (levels (tree_of b.verity)) (hash_sectors b.verity) b.on_hash.cost (length path) 1 (omega (arith, p.count)) in omega (arith, most))
       (λ x meets. elim meets [ inl differs ↦ inl differs | inr some ↦ inr (inr (l, omega (arith, p.count), some)) ])
       (hash-in b)
-      (λ steady x is. means-step bytes_of b l p steady (Err x) is)
+      (λ images agrees. agrees.on_hash)
+      (λ sure x is. means-step bytes_of b l p sure (Err x) is)
 
 module _ {A : Type 0} (bytes_of : A → List ℕ) (b : DataBlock) {expected : List ℕ} {path : List (List ℕ)} {old mid new : List Device} (whole : 512 * block_sectors b.verity ≡ b.verity.data_block) (p : IsWalked b 0 expected path old mid) where
   -- the data block at last
@@ -182,7 +242,7 @@ module _ {A : Type 0} (bytes_of : A → List ℕ) (b : DataBlock) {expected : Li
       record {
         moved = AreRead-more (path_cost b p) (AreRead-then p.moved q.moved);
         may = (refl, record { index = h; path = omega (arith, p.count); hangs = subst (λ (y : List (List ℕ)). HangsFrom (tree_of b.verity) b.verity.salt b.index b.verity.root y (bytes_of x)) (append-nil path) (p.hangs [] (bytes_of x) refl (size, q.may.1)) });
-        exact = λ steady. means-end bytes_of b p steady (Ok (bytes_of x)) (q.exact (AreSteady-kept old mid p.moved.moved.fixed steady));
+        exact = λ sure. means-end bytes_of b p sure (Ok (bytes_of x)) (q.exact (certain-for (data_expected bytes_of b expected) p.moved (λ i on. on) (λ meets. inl refl) (λ images agrees. agrees) sure));
       }
 
   pub walk_fails : (fault : IoFault) → Gets (data_expected bytes_of b expected) mid new (Err fault)
@@ -191,12 +251,13 @@ module _ {A : Type 0} (bytes_of : A → List ℕ) (b : DataBlock) {expected : Li
       fault_passes {wanted = data_expected bytes_of b expected} {wanted' = chain_expected b} fault q p.moved (path_cost b p)
       (λ x meets. elim meets [ inl differs ↦ inl differs | inr some ↦ inr (inl some) ])
       (λ i on. on)
-      (λ steady x is. means-end bytes_of b p steady (Err x) is)
+      (λ images agrees. agrees)
+      (λ sure x is. means-end bytes_of b p sure (Err x) is)
 
 -- no memory for the path
 pub walk_full : (b : DataBlock) (l : ℕ) → IsOutOfMemory largest_allocation → {expected : List ℕ} {path : List (List ℕ)} {old new : List Device} → IsWalked b l expected path old new → GetsChain b old new (Err io.NoMemory)
 walk_full b l refused {path = path} p = record {
   moved = AreRead-more (let most = levels_cost (levels (tree_of b.verity)) (hash_sectors b.verity) b.on_hash.cost (length path) 0 (omega (arith, p.count)) in omega (arith, most)) p.moved;
   may = refused;
-  exact = λ steady. tt;
+  exact = λ sure. tt;
 }

@@ -30,29 +30,33 @@ ends-as old new result other alike p = p ∙ sym (alike (failures_of old))
 
 -- ---- one set of leaves, and several calls
 
-pub asks-touched : {A : Type 0} {these : ℕ → Bool} {old new : List Device} {result : Result A IoFault} → AsksOnly these old new result → TouchesOnly these old new result
+pub asks-touched : {A Unhealed : Type 0} {these : ℕ → Bool} {old new : List Device} {result : Result A IoFault} → AsksOnly Unhealed these old new result → TouchesOnly these old new result
 asks-touched p = record { leaf = p.leaf; fault = p.fault }
 
 -- no leaf was asked
-pub asks-none : {A : Type 0} (these : ℕ → Bool) (leaves : List Device) (result : Result A IoFault) → IfErr result (NamesOneOf these) → EndsAtFailure leaves leaves result → AsksOnly these leaves leaves result
-asks-none these leaves result fault ends = record { leaf = λ i d out. refl; fault = fault; ends = ends }
+pub asks-none : {A : Type 0} (Unhealed : Type 0) (these : ℕ → Bool) (leaves : List Device) (result : Result A IoFault) → IfErr result (NamesOneOf these) → EndsAtFailure leaves leaves result → AsksOnly Unhealed these leaves leaves result
+asks-none Unhealed these leaves result fault ends = record { leaf = λ i d out. refl; fault = fault; ends = λ none. ends }
 
 -- a call that ended well, and the next one
-pub asks-then : {A B : Type 0} {these : ℕ → Bool} {old mid new : List Device} {x : A} {result : Result B IoFault} → AsksOnly these old mid (Ok x) → AsksOnly these mid new result → AsksOnly these old new result
-asks-then {old = old} {mid = mid} {new = new} {result = result} p q = record { leaf = λ i d out. q.leaf i d out ∙ p.leaf i d out; fault = q.fault; ends = ends-then old mid new result p.ends q.ends }
+pub asks-then : {A B Unhealed : Type 0} {these : ℕ → Bool} {old mid new : List Device} {x : A} {result : Result B IoFault} → AsksOnly Unhealed these old mid (Ok x) → AsksOnly Unhealed these mid new result → AsksOnly Unhealed these old new result
+asks-then {old = old} {mid = mid} {new = new} {result = result} p q = record { leaf = λ i d out. q.leaf i d out ∙ p.leaf i d out; fault = q.fault; ends = λ none. ends-then old mid new result (p.ends none) (q.ends none) }
 
 -- another answer of the same call
-pub asks-as : {A B : Type 0} {these : ℕ → Bool} {old new : List Device} {result : Result A IoFault} (other : Result B IoFault) → IfErr other (NamesOneOf these) → EndAlike other result → AsksOnly these old new result → AsksOnly these old new other
-asks-as {old = old} {new = new} {result = result} other fault alike p = record { leaf = p.leaf; fault = fault; ends = ends-as old new result other alike p.ends }
+pub asks-as : {A B Unhealed : Type 0} {these : ℕ → Bool} {old new : List Device} {result : Result A IoFault} (other : Result B IoFault) → IfErr other (NamesOneOf these) → EndAlike other result → AsksOnly Unhealed these old new result → AsksOnly Unhealed these old new other
+asks-as {old = old} {new = new} {result = result} other fault alike p = record { leaf = p.leaf; fault = fault; ends = λ none. ends-as old new result other alike (p.ends none) }
+
+-- where fewer blocks may be restored
+pub asks-less : {A Unhealed Other : Type 0} {these : ℕ → Bool} {old new : List Device} {result : Result A IoFault} → (Other → Unhealed) → AsksOnly Unhealed these old new result → AsksOnly Other these old new result
+asks-less less p = record { leaf = p.leaf; fault = p.fault; ends = λ none. p.ends (less none) }
 
 -- ---- one set of leaves within another
 
-pub asks-up : {A : Type 0} {these more : ℕ → Bool} {old new : List Device} {result : Result A IoFault} → AreWithin these more → AsksOnly these old new result → AsksOnly more old new result
+pub asks-up : {A Unhealed : Type 0} {these more : ℕ → Bool} {old new : List Device} {result : Result A IoFault} → AreWithin these more → AsksOnly Unhealed these old new result → AsksOnly Unhealed more old new result
 asks-up up p = let touched = touches-up up (asks-touched p) in record { leaf = touched.leaf; fault = touched.fault; ends = p.ends }
 
 -- the runs of a device before one, and that one
-pub device-asked : {A B : Type 0} (c : Configuration) (d s n : ℕ) (source : Source) {old mid new : List Device} {x : A} {result : Result B IoFault} → IsLoaded c → 0 < n → IsServed c d s n source
-    → AsksOnly (leaves_of c (mapped d)) old mid (Ok x) → AsksOnly (source_leaves c source) mid new result → AsksOnly (leaves_of c (mapped d)) old new result
+pub device-asked : {A B Unhealed : Type 0} (c : Configuration) (d s n : ℕ) (source : Source) {old mid new : List Device} {x : A} {result : Result B IoFault} → IsLoaded c → 0 < n → IsServed c d s n source
+    → AsksOnly Unhealed (leaves_of c (mapped d)) old mid (Ok x) → AsksOnly Unhealed (source_leaves c source) mid new result → AsksOnly Unhealed (leaves_of c (mapped d)) old new result
 device-asked c d s n source {x = x} loaded some r p q = asks-then {x = x} p (asks-up (served-within c d s n source loaded some r) q)
 
 -- ---- leaves
@@ -78,7 +82,7 @@ module _ {X : Type 0} (state : X → Device) (devices : List X) (i : ℕ) (x : X
       ∙ ap (λ (k : ℕ). failed_once k (failures_of old)) number
 
 -- a leaf was asked
-pub leaf-asked : {X A : Type 0} (state : X → Device) (devices : List X) (i : ℕ) (c : Configuration) (new : X) (result : Result A IoFault) → IfErr result (NamesOneOf (leaves_of c (Leaf i)))
-    → EndsAtFailure (map state devices) (map state (set devices i new)) result → AsksOnly (leaves_of c (Leaf i)) (map state devices) (map state (set devices i new)) result
-leaf-asked state devices i c new result fault ends =
-    let touched = leaf-touched state devices i c new result fault in record { leaf = touched.leaf; fault = touched.fault; ends = ends }
+pub leaf-asked : {X A : Type 0} (Unhealed : Type 0) (state : X → Device) (devices : List X) (i : ℕ) (c : Configuration) (new : X) (result : Result A IoFault) → IfErr result (NamesOneOf (leaves_of c (Leaf i)))
+    → EndsAtFailure (map state devices) (map state (set devices i new)) result → AsksOnly Unhealed (leaves_of c (Leaf i)) (map state devices) (map state (set devices i new)) result
+leaf-asked Unhealed state devices i c new result fault ends =
+    let touched = leaf-touched state devices i c new result fault in record { leaf = touched.leaf; fault = touched.fault; ends = λ none. ends }

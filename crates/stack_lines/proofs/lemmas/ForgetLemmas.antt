@@ -18,6 +18,7 @@ use Rattle.verified_cache.specs.declared.key.Key.{Key}
 use Rattle.stack_lines.specs.declared.leaf_set.LeafSet.{LeafSet}
 use Rattle.stack_meaning.specs.Blocks.{hash_sectors, hash_place}
 use Rattle.stack_lines.specs.Caches.{IsCached}
+use Rattle.stack_meaning.specs.Agreement.{AgreesOn}
 use Rattle.stack_meaning.specs.Changes.{KeepsOthers, reached}
 use Rattle.stack_meaning.specs.LeavesBeneath.{leaves_beneath}
 use Rattle.stack_meaning.specs.Leaves.{steady_image, steady_images, AreSteady, fixed_part}
@@ -25,6 +26,7 @@ use Rattle.stack_meaning.specs.Meaning.{Said, none_said, said_at}
 use Rattle.stack_meaning.specs.Outcomes.{Images, LeafSector, span}
 use Rattle.stack_lines.specs.Standing.{has_leaf, name_stands_on, stands_on, key_stands_on, cache_without_leaf, CoversBlocks}
 use Rattle.stack_lines.proofs.lemmas.StandingLemmas.{and-true, verity-stands}
+use Rattle.stack_meaning.proofs.lemmas.AgreementLemmas.{agrees-alike}
 use Rattle.stack_meaning.proofs.lemmas.LeafListLemmas.{AreSteady-kept}
 use Rattle.stack_meaning.proofs.lemmas.LeavesBeneathLemmas.{spans-alike}
 use Rattle.stack_meaning.proofs.lemmas.SectorLemmas.{said_at-leaf}
@@ -119,9 +121,12 @@ module _ (c : Configuration) (i : ℕ) (old new : List Device) (fixed : map fixe
         verity = one.verity;
         line = one.line;
         block = one.block;
-        exact = λ steady.
+        exact = λ steady agrees.
             let before : AreSteady (λ j. name_stands_on c j one.verity.hash) old = AreSteady-kept new old (sym fixed) steady in
-            sym (spans-known c i (steady_images old) (steady_images new) same-image (named c one.verity.hash) (not-on b one off) (hash_place one.verity b.key.level b.key.block) (hash_sectors one.verity)) ∙ one.exact before;
+            let agreed : AgreesOn c (λ j. name_stands_on c j one.verity.hash) (steady_images old) =
+            agrees-alike c (steady_images new) (steady_images old) (λ j. name_stands_on c j one.verity.hash)
+            (λ j on. sym (same-image j (λ same. clash c i (name_stands_on c i one.verity.hash) (subst (λ (k : ℕ). name_stands_on c k one.verity.hash ≡ true) same on) (not-on b one off)))) agrees in
+            sym (spans-known c i (steady_images old) (steady_images new) same-image (named c one.verity.hash) (not-on b one off) (hash_place one.verity b.key.level b.key.block) (hash_sectors one.verity)) ∙ one.exact before agreed;
       }) cache.blocks all
 
 -- a write to a leaf's sectors leaves the other leaves alone

@@ -33,6 +33,7 @@ use Rattle.stack_meaning.specs.Reading.{Gets, Reads, IsPlain}
 use Rattle.stack_meaning.proofs.lemmas.SectorLemmas.{said_at-line, line_said-beneath}
 use Rattle.stack_meaning.proofs.lemmas.CostLemmas.{cost-falls}
 use Rattle.stack_meaning.proofs.lemmas.LoadedLemmas.{depth-falls}
+use Rattle.stack_meaning.proofs.lemmas.AgreementLemmas.{agrees-within}
 use Rattle.stack_meaning.proofs.lemmas.LeafListLemmas.{AreRead-none}
 use Rattle.stack_meaning.proofs.lemmas.FoundLemmas.{Grown-none, kept-later}
 use Rattle.stack_meaning.proofs.lemmas.SpanLemmas.{span_zeros, span_fails}
@@ -118,10 +119,11 @@ served-passes c d s n source loaded some r = record {
   said = λ j h. let e : 0 + j ≡ j = omega arith in ap (source_said c source) e ∙ served-said c d s n j source loaded h r;
   cost = served-cost c d s n source loaded some r;
   leaves = one-within (source_leaves c source) (leaves_of c (mapped d)) (served-within c d s n source loaded some r);
+  agrees = λ images. agrees-within c images (one-within (source_leaves c source) (leaves_of c (mapped d)) (served-within c d s n source loaded some r));
 }
 
 below-passes : (c : Configuration) (lower : Lower) (first n : ℕ) → Passes (place_of c lower) (source_place c (Below lower first)) first 0 n
-below-passes c lower first n = record { said = λ j h. let e : j ≡ 0 + j = omega arith in ap (λ (k : ℕ). said_at c lower (first + k)) e; cost = omega arith; leaves = λ i is. is }
+below-passes c lower first n = record { said = λ j h. let e : j ≡ 0 + j = omega arith in ap (λ (k : ℕ). said_at c lower (first + k)) e; cost = omega arith; leaves = λ i is. is; agrees = λ images all. all }
 
 pub below_of : (c : Configuration) (lower : Lower) (first n : ℕ) (did : LeafRead) (answer : Result (List ℕ) IoFault) → Reads c lower first n did answer → ReadsSource c (Below lower first) n did answer
 below_of c lower first n did answer p = pass (below-passes c lower first n) did answer p
@@ -140,7 +142,7 @@ zeros_of c n leaves found bytes kept e = record {
   got = record {
     moved = AreRead-none _ leaves;
     may = record { len = ap length e ∙ length-replicate {A = ℕ} (512 * n) 0; sectors = λ j h. ap (λ (b : List ℕ). part b j) e ∙ part-zeros n j h };
-    exact = λ steady. span_zeros (λ j. (source_said c Zeros j).means (steady_images leaves)) 0 n (λ j h. refl) ∙ ap Ok (sym e);
+    exact = λ sure. span_zeros (λ j. (source_said c Zeros j).means (steady_images leaves)) 0 n (λ j h. refl) ∙ ap Ok (sym e);
   };
   grown = Grown-none (λ j. (source_said c Zeros j).entries) 0 n found;
   kept = kept;
@@ -151,7 +153,7 @@ fails_of c n leaves found kept some = record {
   got = record {
     moved = AreRead-none _ leaves;
     may = (0, some, refl);
-    exact = λ steady. span_fails (λ j. (source_said c Fails j).means (steady_images leaves)) 0 n error_target some refl;
+    exact = λ sure. span_fails (λ j. (source_said c Fails j).means (steady_images leaves)) 0 n error_target some refl;
   };
   grown = Grown-none (λ j. (source_said c Fails j).entries) 0 n found;
   kept = kept;

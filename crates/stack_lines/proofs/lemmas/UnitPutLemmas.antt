@@ -21,7 +21,7 @@ use Rattle.stack_lines.specs.Cuts.{PutsInSteps}
 use Rattle.stack_lines.specs.Writing.{sectors_in, crypt_put}
 use Rattle.stack_lines.proofs.StripeLemmas.{part-more, part-ends}
 use Rattle.stack_meaning.proofs.lemmas.UnitSizeLemmas.{per_unit-some}
-use Rattle.stack_lines.proofs.lemmas.UnitReadLemmas.{unit_first-more}
+use Rattle.stack_lines.proofs.lemmas.UnitFirstLemmas.{unit_first-more}
 use Rattle.stack_lines.proofs.lemmas.PutLemmas.{then_same, Apart, put-apart, put-together, put-none}
 use Rattle.stack_meaning.proofs.lemmas.UnitLemmas.{unit-more, unit-is, unit-length, length-encrypted_units, unit-encrypted, units-count}
 use Rattle.stack_lines.proofs.lemmas.WriteRunLemmas.{length-sectors_in, sectors_in-none, sectors_in-append}

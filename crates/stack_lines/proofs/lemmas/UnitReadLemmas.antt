@@ -3,7 +3,7 @@ use Rattle.std.proofs.Common.{Bool, true, false, IsTrue, ◌≡◌, ◌++◌, []
 use Rattle.std.proofs.lemmas.List.{length-take-le, length-drop, take-append-drop, drop-drop}
 use Rattle.std.proofs.lemmas.List.Elements.{All-map, All-nil}
 use Rattle.std.specs.Prelude.{if◌then◌else◌}
-use Rattle.std.proofs.lemmas.Nat.{div-add-mod', div-mul-add, mod-mul-add, mod_below}
+use Rattle.std.proofs.lemmas.Nat.{div-add-mod', div-mul-add, mod-mul-add}
 use Rattle.std.proofs.Math.Nat.{add-mul}
 use Rattle.xts_sector.specs.Units.{unit}
 use Rattle.block_device.specs.Device.{Device, IsSector}
@@ -14,7 +14,7 @@ use Rattle.stack_rules.specs.Rules.{IsLoaded}
 use Rattle.stack_meaning.specs.declared.fault.IoFault.{IoFault}
 use Rattle.stack_meaning.specs.Sectors.{SomeOf, gathered}
 use Rattle.stack_meaning.specs.declared.fault.Fault.{Fault}
-use Rattle.stack_meaning.specs.Outcomes.{Outcome, Images, joint_outcome, changed_outcome, span, part, AreWhole}
+use Rattle.stack_meaning.specs.Outcomes.{Outcome, Images, joint_outcome, changed_outcome, mismatch, span, part, AreWhole}
 use Rattle.stack_meaning.specs.Units.{per_unit, unit_bytes, decrypted_unit, decrypted_units, crypt_unit_number, unit_part, unit_first}
 use Rattle.stack_meaning.specs.Found.{found_entry, HasGrown}
 use Rattle.stack_meaning.specs.Meaning.{Said, crypt_said, said_at}
@@ -22,15 +22,18 @@ use Rattle.stack_meaning.specs.Leaves.{steady_image, steady_images}
 use Rattle.stack_meaning.specs.LeavesBeneath.{stands_on}
 use Rattle.stack_meaning.specs.Changes.{AllWhole}
 use Rattle.stack_meaning.specs.Places.{Place, place_of, run_expected, LeafRead}
-use Rattle.stack_meaning.specs.Reading.{Reads, Finds}
+use Rattle.stack_meaning.specs.Agreement.{AgreesOn}
+use Rattle.stack_meaning.specs.Reading.{IsCertain, Reads, Finds}
 use Rattle.stack_meaning.proofs.lemmas.UnitSizeLemmas.{per_unit-some}
-use Rattle.stack_meaning.proofs.lemmas.LeafListLemmas.{AreRead-none, AreRead-more, AreSteady-within}
+use Rattle.stack_meaning.proofs.lemmas.AgreementLemmas.{agrees-within}
+use Rattle.stack_meaning.proofs.lemmas.LeafListLemmas.{AreRead-none, AreRead-more}
 use Rattle.stack_meaning.proofs.lemmas.FoundLemmas.{in-gathered}
-use Rattle.stack_meaning.proofs.lemmas.RunLemmas.{part_left, fault_passes}
+use Rattle.stack_meaning.proofs.lemmas.RunLemmas.{certain-for, part_left, fault_passes}
 use Rattle.stack_lines.proofs.lemmas.SizeLemmas.{sector-size}
+use Rattle.stack_lines.proofs.lemmas.UnitFirstLemmas.{unit_first-more, same-first, units-some, units-meet}
 use Rattle.stack_meaning.proofs.lemmas.SizedLemmas.{AreSized, span-length, span-part, crypt-size}
 use Rattle.stack_meaning.proofs.lemmas.SpanLemmas.{span-add, span_same, span_fails}
-use Rattle.stack_meaning.proofs.lemmas.UnitLemmas.{span-parts, unit-more, unit-fits, unit-is, unit-length, unit-sector, length-decrypted_units, part-decrypted}
+use Rattle.stack_meaning.proofs.lemmas.UnitLemmas.{span-parts, unit-fits, unit-is, unit-length, unit-sector, length-decrypted_units, part-decrypted}
 use Rattle.xts_sector.proofs.lemmas.UnitLemmas as xts
 
 pub images-whole : (leaves : List Device) → AllWhole leaves → AreWhole (steady_images leaves)
@@ -48,44 +51,7 @@ abbrev pub units_said : Configuration → Lower → CryptUnits → List ℕ → 
 units_said c lower units key w j = crypt_said (said_at c lower) units key (w + j)
 
 abbrev pub units_place : Configuration → Lower → CryptUnits → List ℕ → ℕ → ℕ → (ℕ → Bool) → Place
-units_place c lower units key w cost these = record { said = units_said c lower units key w; cost = cost; leaves = these }
-
--- ---- sectors beneath units
-
-module _ (units : CryptUnits) (w : ℕ) (aligned : w % per_unit units ≡ 0) where
-  some-unit : 0 < per_unit units
-  some-unit = omega (arith, per_unit-some units)
-
-  -- the unit of sector w + j begins there
-  pub unit_first-more : (j : ℕ) → unit_first units (w + j) ≡ unit_first units w + j / per_unit units * per_unit units
-  unit_first-more j =
-      let u : ℕ = per_unit units in
-      ap (λ (k : ℕ). units.offset + k * u) (unit-more u w j some-unit aligned).0
-      ∙ (omega (arith, add-mul (w / u) (j / u) u))
-
-  -- sector j on the lower device is one of the unit of sector w + j
-  pub unit_first-of : (j : ℕ) → unit_first units w + j ≡ unit_first units (w + j) + j % per_unit units
-  unit_first-of j = omega (arith, unit_first-more j, div-add-mod' j (per_unit units))
-
-  -- all sectors of a unit have one unit beneath
-  pub same-first : (j : ℕ) → j < per_unit units → unit_first units (w + j) ≡ unit_first units w
-  same-first j low =
-      let u : ℕ = per_unit units in
-      let none : j / u ≡ 0 = let split : j ≡ 0 * u + j = omega arith in ap (λ (k : ℕ). k / u) split ∙ div-mul-add 0 u j low in
-      unit_first-more j ∙ ap (λ (k : ℕ). unit_first units w + k * u) none ∙ (omega arith)
-
-  module _ (lower : ℕ → Said) (key : List ℕ) where
-    -- what one of the sectors beneath meets, its unit meets
-    pub units-some : (P : Said → Type 0) (Q : Said → Type 0) → ((s : ℕ) → SomeOf (λ t. P (lower t)) (unit_first units s) (per_unit units) → Q (crypt_said lower units key s)) → (n : ℕ)
-        → SomeOf (λ t. P (lower t)) (unit_first units w) n → SomeOf (λ j. Q (crypt_said lower units key (w + j))) 0 n
-    units-some P Q up n some =
-        let j : ℕ = some.0 in
-        let at : j ≡ 0 + j = omega arith in
-        let here : SomeOf (λ t. P (lower t)) (unit_first units (w + j)) (per_unit units) = (j % per_unit units, mod_below j (per_unit units) some-unit, subst (λ (t : ℕ). P (lower t)) (unit_first-of j) some.2) in
-        (j, some.1, subst (λ (i : ℕ). Q (crypt_said lower units key (w + i))) at (up (w + j) here))
-
-    pub units-meet : (fault : Fault) (n : ℕ) → SomeOf (λ t. (lower t).meets fault) (unit_first units w) n → SomeOf (λ j. (crypt_said lower units key (w + j)).meets fault) 0 n
-    units-meet fault = units-some (λ x. x.meets fault) (λ x. x.meets fault) (λ s some. some)
+units_place c lower units key w cost these = record { said = units_said c lower units key w; cost = cost; leaves = these; agrees = AgreesOn c these }
 
 -- ---- spans of units
 
@@ -227,8 +193,11 @@ module _ (c : Configuration) (lower : Lower) (units : CryptUnits) (key : List �
                   part-decrypted units key bytes n run.len whole w j aligned h,
                 );
           };
-          exact = λ steady.
+          exact = λ sure.
               let images : Images = steady_images did.old in
+              let beneath : IsCertain (run_expected (place_of c lower) did.after (unit_first units w) n) did.old =
+              certain-for (run_expected (place_of c lower) did.after (unit_first units w) n) {wanted' = run_expected (units_place c lower units key w cost these) did.after 0 n} (AreRead-none 0 did.old) within
+              (λ some. units-meet units w aligned (said_at c lower) key mismatch n some) (λ m. agrees-within c m within) sure in
               let f : ℕ → Outcome = λ s. (said_at c lower s).means images in
               let sized : AreSized f = λ s. sector-size c images loaded (images-whole did.old all) lower s in
               let g : ℕ → Outcome = λ j. (units_said c lower units key w j).means images in
@@ -238,7 +207,7 @@ module _ (c : Configuration) (lower : Lower) (units : CryptUnits) (key : List �
               let fits = unit-fits u n j some whole h in
               let rest : n ≡ i * u + (u + (n - (i * u + u))) = omega (arith, fits) in
               let under : span f (unit_first units w + i * u) u ≡ Ok (take (512 * u) (drop (512 * (i * u)) bytes)) =
-              span-part f sized (unit_first units w) (i * u) u (n - (i * u + u)) bytes (ap (span f (unit_first units w)) (sym rest) ∙ p.got.exact (AreSteady-within did.old within steady)) in
+              span-part f sized (unit_first units w) (i * u) u (n - (i * u + u)) bytes (ap (span f (unit_first units w)) (sym rest) ∙ p.got.exact beneath) in
               ap g at
               ∙ ap (λ (s : ℕ). changed_outcome (unit_part units key (w + j)) (span f s u)) (unit_first-more units w aligned j)
               ∙ ap (changed_outcome (unit_part units key (w + j))) under
@@ -256,7 +225,8 @@ module _ (c : Configuration) (lower : Lower) (units : CryptUnits) (key : List �
         (let same = ap (λ (k : ℕ). n * k) dear in omega (arith, same))
         (λ x some. units-meet units w aligned (said_at c lower) key x n some)
         within
-        (λ steady x is.
+        (λ m. agrees-within c m within)
+        (λ sure x is.
         let u : ℕ = per_unit units in
         let images : Images = steady_images did.old in
         let f : ℕ → Outcome = λ s. (said_at c lower s).means images in
@@ -307,14 +277,17 @@ module _ (c : Configuration) (lower : Lower) (units : CryptUnits) (key : List �
                 subst (λ (b : List ℕ). (units_said c lower units key (w0 + r) (0 + j)).may did.after b) (sym (cut-part bytes j (omega (arith, run.len)) h))
                 (subst (λ (x : Said). x.may did.after (part bytes (r + j))) (part-said j) (run.sectors (r + j) (omega (arith, h, fits))));
           };
-          exact = λ steady.
+          exact = λ sure.
               let images : Images = steady_images did.old in
+              let whole : IsCertain (run_expected (units_place c lower units key w0 cost these) did.after 0 (per_unit units)) did.old =
+              certain-for (run_expected (units_place c lower units key w0 cost these) did.after 0 (per_unit units)) {wanted' = run_expected (units_place c lower units key (w0 + r) dear these) did.after 0 n} (AreRead-none 0 did.old) (λ i is. is)
+              (λ met. unit-some (λ first. SomeOf (λ t. (said_at c lower t).meets mismatch) first (per_unit units)) met) (λ m agrees. agrees) sure in
               let g : ℕ → Outcome = λ j. (units_said c lower units key w0 j).means images in
               let sized : AreSized g = λ j. crypt-size images (said_at c lower) (λ t. sector-size c images loaded (images-whole did.old all) lower t) units key (w0 + j) in
               let rest : u ≡ r + (n + (u - (r + n))) = omega (arith, fits) in
               span_same (λ j. (units_said c lower units key (w0 + r) j).means images) g 0 (0 + r) n
               (λ j h. let at : 0 + r + j ≡ 0 + (r + j) = omega arith in sym (ap g at ∙ ap (λ (x : Said). x.means images) (part-said j)))
-              ∙ span-part g sized 0 r n (u - (r + n)) bytes (ap (span g 0) (sym rest) ∙ p.got.exact steady);
+              ∙ span-part g sized 0 r n (u - (r + n)) bytes (ap (span g 0) (sym rest) ∙ p.got.exact whole);
         };
         grown = part-grown p.grown;
         kept = p.kept;
@@ -347,7 +320,8 @@ module _ (c : Configuration) (lower : Lower) (units : CryptUnits) (key : List �
         (omega (arith, paid))
         (λ x some. unit-some (λ first. SomeOf (λ t. (said_at c lower t).meets x) first (per_unit units)) some)
         (λ i is. is)
-        (λ steady x is.
+        (λ m agrees. agrees)
+        (λ sure x is.
         let images : Images = steady_images did.old in
         let first : w0 + r + 0 ≡ w0 + r = omega arith in
         let g : ℕ → Outcome = λ j. (units_said c lower units key (w0 + r) j).means images in

@@ -19,7 +19,8 @@ use Rattle.stack_meaning.specs.Reading.{Reads, Finds, IsPlain}
 use Rattle.stack_lines.specs.Sources.{AreUnits, LieInUnit, IsWholeOf, from_unit, source_said, ReadsSource}
 use Rattle.stack_meaning.proofs.lemmas.UnitSizeLemmas.{per_unit-some}
 use Rattle.stack_meaning.proofs.lemmas.UnitLemmas.{unit-begin}
-use Rattle.stack_lines.proofs.lemmas.UnitReadLemmas.{units_place, units_ok, units_err, same-first, part_ok, part_err}
+use Rattle.stack_lines.proofs.lemmas.UnitFirstLemmas.{same-first}
+use Rattle.stack_lines.proofs.lemmas.UnitReadLemmas.{units_place, units_ok, units_err, part_ok, part_err}
 use Rattle.stack_meaning.proofs.lemmas.FoundLemmas.{in-gathered}
 use Rattle.stack_meaning.proofs.lemmas.PlainLemmas.{plain-up, plain-first}
 use Rattle.stack_meaning.proofs.lemmas.UpLemmas.{IsUp}

@@ -22,6 +22,7 @@ use Rattle.stack_config.proofs.lemmas.ParityLineLemmas.{IsParityLine, parity-lin
 use Rattle.stack_config.proofs.lemmas.VerityLineLemmas.{IsVerityLine, verity-line, data_block-inside, hash_block-inside}
 use Rattle.stack_lines.specs.declared.source.VerityPart.{VerityPart}
 use Rattle.stack_lines.specs.declared.tree.Tree.{Tree}
+use Rattle.stack_meaning.specs.Agreement.{AgreesOn}
 use Rattle.stack_meaning.specs.Blocks.{hash_sectors}
 use Rattle.stack_meaning.specs.Meaning.{Said, none_said, said_at, said_by_name}
 use Rattle.stack_meaning.specs.Beneath.{said_or}
@@ -50,7 +51,7 @@ same-verity c d l m n v w a b =
 
 -- what a name means is the place of what it names
 pub place-named : (c : Configuration) (name : List ℕ) (lower : Lower) → named c name ≡ Some lower → place_named c name ≡ place_of c lower
-place-named c name lower is = ap {B = Place} (λ (o : Option Lower). record { said = known {A = ℕ → Said} (λ t. none_said) (said_at c) o; cost = known 0 (read_cost c) o; leaves = λ i. known false (stands_on c i) o }) is
+place-named c name lower is = ap {B = Place} (λ (o : Option Lower). record { said = known {A = ℕ → Said} (λ t. none_said) (said_at c) o; cost = known 0 (read_cost c) o; leaves = λ i. known false (stands_on c i) o; agrees = AgreesOn c (λ i. known false (stands_on c i) o) }) is
 
 module _ (c : Configuration) (v : Verity) (tree : Tree) (loaded : IsLoaded c) (is : IsTreeOf c v tree) where
   facts : IsVerityLine c tree.device.0 is.is.line v tree.data tree.hash
@@ -97,6 +98,7 @@ parity-placed c v lower is =
       said = λ t. said_or none_said (said_by_name c) (option_map (λ base. (base.device, t)) (slice_get (record { device = v.data; offset = 0 } ∷ record { device = v.hash; offset = 0 } ∷ parity_bases o) 2));
       cost = option_map_or (λ p. by_name c 0 (read_cost c) p.device) o 0;
       leaves = λ i. option_map_or (λ p. name_stands_on c i p.device) o false;
+      agrees = AgreesOn c (λ i. option_map_or (λ p. name_stands_on c i p.device) o false);
     } in
     ap at p.has ∙ place-named c p.parity.device lower p.named
 

@@ -17,7 +17,9 @@ use Rattle.stack_meaning.proofs.lemmas.MeaningLaws.{MeantLaws}
 use Rattle.stack_meaning.proofs.lemmas.MeaningLawsOf.{meaning-laws}
 use Rattle.stack_meaning.proofs.lemmas.SectorLemmas.{IsHandedUp, said_at-each}
 use Rattle.stack_meaning.specs.Found.{FoundRecord, Entry, found_entry, AreUsed, HasGrown}
-use Rattle.stack_meaning.specs.Kept.{LineKeeps, AllKept, target_leaves}
+use Rattle.stack_meaning.specs.Agreement.{AgreesOn}
+use Rattle.stack_meaning.specs.Kept.{AreCertain, LineKeeps, AllKept, target_leaves}
+use Rattle.stack_meaning.proofs.lemmas.LeafListLemmas.{AreSteady-kept, images-kept}
 
 pub Grown-none : (entries : ℕ → List Entry) (first n : ℕ) (found : List FoundRecord) → HasGrown entries first n found found
 Grown-none entries first n found = record { added = []; is = sym (append-nil found); used = All-nil _ }
@@ -49,9 +51,15 @@ grown-keeps {u = u} p x h = subst (λ (l : List FoundRecord). Contains l x) (sym
 LineKeeps-later : (c : Configuration) {old new : List Device} {n : ℕ} (target : Target) (x : FoundRecord) → AreRead old n new → LineKeeps c old target x.chain → LineKeeps c new target x.chain
 LineKeeps-later c {old = old} {new = new} {n = n} target x a h = go (meaning_of target).meant (meaning-laws target) h
   where
-    go : (m : Meant) → MeantLaws target m → keeps_as m (below none_said (said_by_name c) target) (target_leaves c target) old x.chain → keeps_as m (below none_said (said_by_name c) target) (target_leaves c target) new x.chain
+    before : AreCertain c target new → AreCertain c target old
+    before sure = record {
+      steady = AreSteady-kept new old (sym a.moved.fixed) sure.steady;
+      agrees = subst (AgreesOn c (target_leaves c target)) (images-kept a) sure.agrees;
+    }
+
+    go : (m : Meant) → MeantLaws target m → keeps_as m (below none_said (said_by_name c) target) (AreCertain c target) old x.chain → keeps_as m (below none_said (said_by_name c) target) (AreCertain c target) new x.chain
     go handed laws h = absurd h
-    go (own m) laws h = laws.later (below none_said (said_by_name c) target) (target_leaves c target) old new n x.chain a h
+    go (own m) laws h = laws.later (below none_said (said_by_name c) target) (AreCertain c target) old new n x.chain a before h
 
 pub kept-later : (c : Configuration) {old new : List Device} {n : ℕ} (found : List FoundRecord) → AreRead old n new → AllKept c old found → AllKept c new found
 kept-later c found a all = λ k d below.

@@ -139,6 +139,17 @@ failed_later {i = i} {old = old} {mid = mid} a b f = record {
   unsure = λ d h. f.unsure d (a.never_fails i d h);
 }
 
+-- and so did one that failed in an earlier call
+pub failed_earlier : {i r w : ℕ} {old mid new : List Device} → Moves r w mid new → LeafFailed i old mid → LeafFailed i old new
+failed_earlier {i = i} b f = record {
+  inside = f.inside;
+  failed = λ d. elim (f.failed d) [
+    | inl grew ↦ inl (omega (arith, grew, b.failures i d))
+    | inr full ↦ inr full
+  ];
+  unsure = f.unsure;
+}
+
 sizes_by_fixed : (leaves : List Device) → sizes_of leaves ≡ map (λ (x : Fixed). x.size) (map fixed_part leaves)
 sizes_by_fixed [] = refl
 sizes_by_fixed (l ∷ leaves) = ap (λ (rest : List ℕ). l.size ∷ rest) (sizes_by_fixed leaves)

@@ -75,6 +75,10 @@ module _ (images other : Images) where
         device-alike (after_steps (λ t. none_said) (sector_rule c none_said leaf_said line_said) n) d.0 s
         (each-alike (λ y. steps-alike n y) (lowers c d.0) (each-list (after_steps [] (leaves_rule c) n) (lowers c d.0) all)) (line_at c d.0 s) refl
 
+    pub sector-alike : (lower : Lower) → AllByRecursion IsSame (leaves_beneath c lower) → (s : ℕ) → sector c images lower s ≡ sector c other lower s
+    unfolding descend
+    sector-alike lower all s = steps-alike (suc most_devices) lower all s
+
     pub spans-alike : (lower : Lower) → All IsSame (leaves_beneath c lower) → (first n : ℕ) → span (sector c images lower) first n ≡ span (sector c other lower) first n
     unfolding descend
     spans-alike lower all first n =

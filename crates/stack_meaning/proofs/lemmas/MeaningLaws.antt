@@ -48,7 +48,7 @@ pub record OwnLaws (target : Target) (m : OwnMeaning) : Type 1 where
   -- and where it isn't one that can only be read
   pub unchecked : (len : ℕ) → needs_read_only len target ≡ false → (below : ℕ → ℕ → Said) → ((i t : ℕ) → IsUnchecked (below i t)) → (d l s : ℕ) → IsUnchecked (m.said below d l s)
   -- what it keeps of a chain still holds after the leaves are read
-  pub later : (below : ℕ → ℕ → Said) (these : ℕ → Bool) (old new : List Device) (n : ℕ) (chain : ChainRecord) → AreRead old n new → m.keeps below these old chain → m.keeps below these new chain
+  pub later : (below : ℕ → ℕ → Said) (certain : List Device → Type 0) (old new : List Device) (n : ℕ) (chain : ChainRecord) → AreRead old n new → (certain new → certain old) → m.keeps below certain old chain → m.keeps below certain new chain
 
 -- of what is handed on nothing has to hold
 abbrev pub MeantLaws : Target → Meant → Type 1

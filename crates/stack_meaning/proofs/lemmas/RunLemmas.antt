@@ -9,14 +9,14 @@ use Rattle.stack_rules.specs.Records.{Configuration}
 use Rattle.stack_meaning.specs.declared.fault.IoFault.{IoFault}
 use Rattle.stack_meaning.specs.declared.fault.IoFault.TheVariants as io
 use Rattle.stack_meaning.specs.declared.fault.Fault.{Fault}
-use Rattle.stack_meaning.specs.Outcomes.{Outcome, Images, joint_outcome, span, part}
+use Rattle.stack_meaning.specs.Outcomes.{Outcome, Images, joint_outcome, mismatch, span, part}
 use Rattle.stack_meaning.specs.Sectors.{IsRun}
-use Rattle.stack_meaning.specs.Leaves.{steady_images, AreSteady, AreRead}
+use Rattle.stack_meaning.specs.Leaves.{steady_images, AreRead}
 use Rattle.stack_meaning.specs.Found.{FoundRecord, found_entry}
 use Rattle.stack_meaning.specs.Meaning.{Said}
 use Rattle.stack_meaning.specs.Places.{Place, Expected, run_expected, LeafRead}
-use Rattle.stack_meaning.specs.Reading.{Ends, Answers, Gets, Finds}
-use Rattle.stack_meaning.proofs.lemmas.LeafListLemmas.{AreRead-then, AreRead-more, AreSteady-kept, AreSteady-within, images-kept, failed_later}
+use Rattle.stack_meaning.specs.Reading.{Ends, Answers, Gets, IsCertain, Finds}
+use Rattle.stack_meaning.proofs.lemmas.LeafListLemmas.{AreRead-none, AreRead-then, AreRead-more, AreSteady-kept, AreSteady-within, images-kept, failed_later}
 use Rattle.stack_meaning.proofs.lemmas.FoundLemmas.{HasMore, IsMono, SomeOf-more, Grown-then, grown-keeps}
 use Rattle.stack_meaning.proofs.lemmas.SpanLemmas.{span-add, span_same}
 
@@ -29,26 +29,35 @@ Ends-as wanted wanted' old new (Err (io.Stack fault)) is faults h = faults fault
 Ends-as wanted wanted' old new (Err (io.Device i)) is faults h = h
 Ends-as wanted wanted' old new (Err io.NoMemory) is faults h = h
 
+-- what makes the result of one call certain makes that of a later call certain, of which no more is asked
+pub certain-for : {A B : Type 0} (wanted : Expected A) {wanted' : Expected B} {old mid : List Device} {m : ℕ} → AreRead old m mid → ((i : ℕ) → IsTrue (wanted.leaves i) → IsTrue (wanted'.leaves i))
+    → (wanted.faults mismatch → wanted'.faults mismatch) → ((images : Images) → wanted'.agrees images → wanted.agrees images) → IsCertain wanted' old → IsCertain wanted mid
+certain-for wanted {old = old} {mid = mid} a within faults agrees sure = record {
+  steady = AreSteady-within mid within (AreSteady-kept old mid a.moved.fixed sure.steady);
+  agrees = λ meets. subst wanted.agrees (sym (images-kept a)) (agrees (steady_images old) (sure.agrees (faults meets)));
+}
+
 -- a fault passes on, also to what begins before the call
 pub fault_passes : {A B : Type 0} {wanted : Expected A} {wanted' : Expected B} {old mid new : List Device} {m : ℕ} (fault : IoFault)
     → Gets wanted mid new (Err fault) → AreRead old m mid → m + wanted.cost ≤ wanted'.cost → ((x : Fault) → wanted.faults x → wanted'.faults x)
     → ((i : ℕ) → IsTrue (wanted.leaves i) → IsTrue (wanted'.leaves i))
-    → (AreSteady wanted'.leaves old → (x : Fault) → wanted.means (steady_images mid) ≡ Err x → wanted'.means (steady_images old) ≡ Err x)
+    → ((images : Images) → wanted'.agrees images → wanted.agrees images)
+    → (IsCertain wanted' old → (x : Fault) → wanted.means (steady_images mid) ≡ Err x → wanted'.means (steady_images old) ≡ Err x)
     → Gets wanted' old new (Err fault)
-fault_passes {old = old} {mid = mid} (io.Stack fault) p a h faults within means = record {
+fault_passes {wanted = wanted} {old = old} {mid = mid} (io.Stack fault) p a h faults within agrees means = record {
   moved = AreRead-more h (AreRead-then a p.moved);
   may = faults fault p.may;
-  exact = λ steady. means steady fault (p.exact (AreSteady-within mid within (AreSteady-kept old mid a.moved.fixed steady)));
+  exact = λ sure. means sure fault (p.exact (certain-for wanted a within (faults mismatch) agrees sure));
 }
-fault_passes (io.Device i) p a h faults within means = record {
+fault_passes (io.Device i) p a h faults within agrees means = record {
   moved = AreRead-more h (AreRead-then a p.moved);
   may = (p.may.0, failed_later a.moved p.moved.moved p.may.1);
-  exact = λ steady. tt;
+  exact = λ sure. tt;
 }
-fault_passes io.NoMemory p a h faults within means = record {
+fault_passes io.NoMemory p a h faults within agrees means = record {
   moved = AreRead-more h (AreRead-then a p.moved);
   may = p.may;
-  exact = λ steady. tt;
+  exact = λ sure. tt;
 }
 
 -- ---- runs
@@ -87,6 +96,11 @@ run-append P first a m x y p q = record {
 pub run-may : (P P' : ℕ → List ℕ → Type 0) (first n : ℕ) (bytes : List ℕ) → ((s : ℕ) (b : List ℕ) → P s b → P' s b) → IsRun P first n bytes → IsRun P' first n bytes
 run-may P P' first n bytes more run = record { len = run.len; sectors = λ j h. more (first + j) (part bytes j) (run.sectors j h) }
 
+-- what makes more sectors certain makes the first of them certain
+first-certain : (place : Place) (chains : List FoundRecord) (first a n : ℕ) (old : List Device) → a ≤ n → IsCertain (run_expected place chains first n) old → IsCertain (run_expected place chains first a) old
+first-certain place chains first a n old h =
+    certain-for (run_expected place chains first a) {wanted' = run_expected place chains first n} (AreRead-none 0 old) (λ i is. is) (λ meets. (meets.0, omega (arith, h, meets.1), meets.2)) (λ images agrees. agrees)
+
 -- a run, and what follows it
 module _ (place : Place) (chains : List FoundRecord) (first a m : ℕ) {old mid new : List Device} {x : List ℕ} (p : Gets (run_expected place chains first a) old mid (Ok x)) where
   -- the next one
@@ -94,13 +108,13 @@ module _ (place : Place) (chains : List FoundRecord) (first a m : ℕ) {old mid 
   fill_ok {y = y} q = record {
     moved = AreRead-more (omega arith) (AreRead-then p.moved q.moved);
     may = run-append (λ s. (place.said s).may chains) first a m x y p.may q.may;
-    exact = λ steady.
+    exact = λ sure.
         let f : Images → ℕ → Outcome = λ images s. (place.said s).means images in
         let images : steady_images mid ≡ steady_images old = images-kept p.moved in
         span-add (f (steady_images old)) first a m
-        ∙ ap (λ (s : Outcome). joint_outcome s (span (f (steady_images old)) (first + a) m)) (p.exact steady)
+        ∙ ap (λ (s : Outcome). joint_outcome s (span (f (steady_images old)) (first + a) m)) (p.exact (first-certain place chains first a (a + m) old (omega arith) sure))
         ∙ ap (λ (i : Images). joint_outcome (Ok x) (span (f i) (first + a) m)) (sym images)
-        ∙ ap (joint_outcome (Ok x)) (q.exact (AreSteady-kept old mid p.moved.moved.fixed steady));
+        ∙ ap (joint_outcome (Ok x)) (q.exact (certain-for (run_expected place chains (first + a) m) p.moved (λ i is. is) (SomeOf-more (λ s. (place.said s).meets mismatch) first a m (a + m) (omega arith)) (λ images h. h) sure));
   }
 
   -- the next one, which ends by a fault
@@ -111,12 +125,13 @@ module _ (place : Place) (chains : List FoundRecord) (first a m : ℕ) {old mid 
       (omega (arith, mul-le-mul_right place.cost h))
       (λ x meets. SomeOf-more (λ s. (place.said s).meets x) first a m n h meets)
       (λ i is. is)
-      (λ steady fails is.
+      (λ images agrees. agrees)
+      (λ sure fails is.
       let images : steady_images mid ≡ steady_images old = images-kept p.moved in
       let parts : n ≡ a + (m + (n - (a + m))) = omega arith in
       let g : ℕ → Outcome = f (steady_images old) in
       ap (span g first) parts ∙ span-add g first a (m + (n - (a + m)))
-      ∙ ap (λ (s : Outcome). joint_outcome s (span g (first + a) (m + (n - (a + m))))) (p.exact steady)
+      ∙ ap (λ (s : Outcome). joint_outcome s (span g (first + a) (m + (n - (a + m))))) (p.exact (first-certain place chains first a n old (omega (arith, h)) sure))
       ∙ ap (joint_outcome (Ok x)) (span-add g (first + a) m (n - (a + m))
       ∙ ap (λ (s : Outcome). joint_outcome s (span g (first + a + m) (n - (a + m)))) (ap (λ (i : Images). span (f i) (first + a) m) (sym images) ∙ is)))
 
@@ -130,7 +145,7 @@ pub fill_more : (place : Place) (first n : ℕ) {u v : List FoundRecord} {old ne
 fill_more place first n {u = u} {v = v} {bytes = bytes} mono more p = record {
   moved = p.moved;
   may = run-may (λ s. (place.said s).may u) (λ s. (place.said s).may v) first n bytes (λ s. mono s u v more) p.may;
-  exact = p.exact;
+  exact = λ sure. p.exact (record { steady = sure.steady; agrees = sure.agrees });
 }
 
 -- ---- runs with what was found
@@ -157,11 +172,13 @@ module _ (place : Place) (c : Configuration) (mono : AllMono place) (first a m :
 
 -- ---- n sectors of a place that are n of another
 
--- n sectors of a place and of another have the same meaning; the second costs no less, and is on all leaves of the first
+-- n sectors of a place and of another have the same meaning; the second costs no less, is on all leaves of the first, and asks no
+-- less of their images
 pub record Passes (place place' : Place) (first first' n : ℕ) : Type 1 where
   pub said : (j : ℕ) → j < n → place.said (first + j) ≡ place'.said (first' + j)
   pub cost : place.cost ≤ place'.cost
   pub leaves : (i : ℕ) → IsTrue (place.leaves i) → IsTrue (place'.leaves i)
+  pub agrees : (images : Images) → place'.agrees images → place.agrees images
 
 module _ {place place' : Place} {first first' n : ℕ} (passes : Passes place place' first first' n) where
   fill_as : (chains : List FoundRecord) {old new : List Device} (answer : Result (List ℕ) IoFault) → Gets (run_expected place chains first n) old new answer → Gets (run_expected place' chains first' n) old new answer
@@ -170,10 +187,12 @@ module _ {place place' : Place} {first first' n : ℕ} (passes : Passes place pl
     may = Ends-as (run_expected place chains first n) (run_expected place' chains first' n) old new answer
         (λ bytes all. record { len = all.len; sectors = λ j h. subst (λ (x : Said). x.may chains (part bytes j)) (passes.said j h) (all.sectors j h) })
         (λ fault some. (some.0, some.1, subst (λ (x : Said). x.meets fault) (passes.said some.0 some.1) some.2)) p.may;
-    exact = λ steady.
+    exact = λ sure.
         let means : (ℕ → Said) → ℕ → Outcome = λ said s. (said s).means (steady_images old) in
         subst (λ (s : Outcome). Answers {A = List ℕ} (λ bytes. bytes) s answer)
-        (span_same (means place.said) (means place'.said) first first' n (λ j h. ap (λ (x : Said). x.means (steady_images old)) (passes.said j h))) (p.exact (AreSteady-within old passes.leaves steady));
+        (span_same (means place.said) (means place'.said) first first' n (λ j h. ap (λ (x : Said). x.means (steady_images old)) (passes.said j h)))
+        (p.exact (certain-for (run_expected place chains first n) {wanted' = run_expected place' chains first' n} (AreRead-none 0 old) passes.leaves
+        (λ some. (some.0, some.1, subst (λ (x : Said). x.meets mismatch) (passes.said some.0 some.1) some.2)) passes.agrees sure));
   }
 
   pub pass : {c : Configuration} (did : LeafRead) (answer : Result (List ℕ) IoFault) → Finds place c first n did answer → Finds place' c first' n did answer

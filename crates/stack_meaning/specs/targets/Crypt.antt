@@ -52,7 +52,7 @@ crypt_meaning line = record {
   meant = own (record {
     said = λ below d l. crypt_said (below 0) (units_of line) line.key;
     put = λ reads puts. unit_put (λ images t. (reads 0 t).means images) (puts 0) (units_of line) line.key;
-    keeps = λ below these leaves chain. ⊥;
+    keeps = λ below certain leaves chain. ⊥;
   });
   together = in_unit (units_of line);
 }

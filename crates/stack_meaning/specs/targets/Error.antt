@@ -11,6 +11,6 @@ error_said = record { means = λ images. Err error_target; may = λ chains bytes
 
 abbrev pub error_meaning : TargetMeaning
 error_meaning = record {
-  meant = own (record { said = λ below d l s. error_said; put = λ reads puts s sectors images. stopped error_target images; keeps = λ below these leaves chain. ⊥ });
+  meant = own (record { said = λ below d l s. error_said; put = λ reads puts s sectors images. stopped error_target images; keeps = λ below certain leaves chain. ⊥ });
   together = λ s. true;
 }

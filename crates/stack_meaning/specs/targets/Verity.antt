@@ -1,5 +1,5 @@
 -- `verity`: data blocks, each verified from the root hash down.
-use Rattle.std.specs.Prelude.{◌≡◌, ℕ, ◌+◌, ◌/◌, ◌%◌, nat_lt, Bool, List, [], ◌∷◌, Contains, Ok}
+use Rattle.std.specs.Prelude.{◌≡◌, ℕ, ◌+◌, ◌/◌, ◌%◌, nat_lt, List, [], ◌∷◌, Contains, Ok}
 use Rattle.hash_tree.specs.Chain.{ChainRecord, IsGood}
 use Rattle.block_device.specs.Device.{Device}
 use Rattle.dm_table.specs.declared.verity.Verity.{Verity}
@@ -8,7 +8,7 @@ use Rattle.stack_meaning.specs.Outcomes.{Images, then_outcome, part}
 use Rattle.stack_meaning.specs.Found.{FoundRecord, Entry, found_entry}
 use Rattle.stack_meaning.specs.Spares.{BlockSources}
 use Rattle.stack_meaning.specs.Blocks.{verified_block, BlockMeets}
-use Rattle.stack_meaning.specs.Leaves.{steady_images, AreSteady}
+use Rattle.stack_meaning.specs.Leaves.{steady_images}
 use Rattle.stack_meaning.specs.Said.{Said}
 use Rattle.stack_meaning.specs.Putting.{done}
 use Rattle.stack_meaning.specs.TargetMeaning.{TargetMeaning, own}
@@ -41,17 +41,17 @@ verity_said below d l v s =
       encrypts = ⊥;
     }
 
--- a chain of a `verity` line over these leaves: it is valid, and if they are steady its content is the data block
-pub record IsOfVerity (below : ℕ → ℕ → Said) (these : ℕ → Bool) (leaves : List Device) (v : Verity) (chain : ChainRecord) : Type 0 where
+-- a chain of a `verity` line over these leaves: it is valid, and if they determine its content it is the data block
+pub record IsOfVerity (below : ℕ → ℕ → Said) (certain : List Device → Type 0) (leaves : List Device) (v : Verity) (chain : ChainRecord) : Type 0 where
   pub good : IsGood (tree_of v) v.salt v.root chain
-  pub exact : AreSteady these leaves → verified_block v (sources_over below (steady_images leaves)) chain.index ≡ Ok chain.content
+  pub exact : certain leaves → verified_block v (sources_over below (steady_images leaves)) chain.index ≡ Ok chain.content
 
 abbrev pub verity_meaning : Verity → TargetMeaning
 verity_meaning line = record {
   meant = own (record {
     said = λ below d l. verity_said below d l line;
     put = λ reads puts s sectors images. done images;
-    keeps = λ below these leaves chain. IsOfVerity below these leaves line chain;
+    keeps = λ below certain leaves chain. IsOfVerity below certain leaves line chain;
   });
   together = λ s. nat_lt (s % block_sectors line + 1) (block_sectors line);
 }

@@ -11,6 +11,6 @@ zero_said = record { means = λ images. Ok zero_sector; may = λ chains bytes. b
 
 abbrev pub zero_meaning : TargetMeaning
 zero_meaning = record {
-  meant = own (record { said = λ below d l s. zero_said; put = λ reads puts s sectors images. done images; keeps = λ below these leaves chain. ⊥ });
+  meant = own (record { said = λ below d l s. zero_said; put = λ reads puts s sectors images. done images; keeps = λ below certain leaves chain. ⊥ });
   together = λ s. true;
 }

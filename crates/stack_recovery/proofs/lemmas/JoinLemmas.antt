@@ -1,20 +1,19 @@
 -- The lost runs that a pass found, among the bad sectors that it left.
-use Rattle.std.proofs.Common.{◌≡◌, ℕ, zero, suc, ◌+◌, ◌<◌, ◌≤◌, ◌&&◌, not, Bool, true, false, cond, List, [], ◌∷◌, ◌++◌, length, drop, get_or, replicate, Option, Some, None, refl, sym, ap, ◌∙◌, subst, append-nil, append_assoc, arith}
+use Rattle.std.proofs.Common.{◌≡◌, ℕ, zero, suc, ◌+◌, ◌<◌, ◌≤◌, ◌&&◌, not, Bool, true, false, List, [], ◌∷◌, ◌++◌, length, drop, get_or, replicate, Option, Some, None, refl, sym, ap, ◌∙◌, subst, append-nil, append_assoc, arith}
 use Rattle.std.specs.Prelude.{nat_le, nat_lt}
 use Rattle.std.proofs.lemmas.Bool.{cond-false, cond-true}
 use Rattle.std.proofs.lemmas.List.{length-append, length-replicate}
 use Rattle.rescue_map.specs.declared.ahead.Ahead.{Ahead}
-use Rattle.rescue_map.specs.declared.map.Run.{Run as MapRun}
 use Rattle.rescue_map.specs.Aheads.{losts_ahead, marks_ahead}
 use Rattle.rescue_map.specs.Maps.{losts, marks}
+use Rattle.rescue_map.proofs.lemmas.RunLemmas.{losts-length}
 use Rattle.runs.specs.Runs.{runs_of}
 use Rattle.runs.specs.Tallies.{listed}
 use Rattle.runs.proofs.lemmas.RunLemmas.{IsTallied, tallied-all, tallied-had, tallied-lost, tallied-none}
-use Rattle.stack_meaning.specs.declared.fault.IoFault.TheVariants.{Device}
 use Rattle.stack_recovery.specs.declared.lost_run.Loss.{Loss}
 use Rattle.stack_recovery.specs.declared.lost_run.Loss.TheVariants.{Lost, Unscraped}
 use Rattle.stack_recovery.specs.declared.tally.Tally.{Tally}
-use Rattle.stack_recovery.specs.Joins.{AreSameFrom, EndsAfter, HaveState, closed_with, joined_state, joined_states, opened_with, state_in}
+use Rattle.stack_recovery.specs.Joins.{AreSameFrom, EndsAfter, HaveState, closed_with, joined_state, joined_states, opened_with, or_known, state_in}
 use Rattle.stack_recovery.specs.Listings.{Listed, Tells}
 use Rattle.stack_recovery.specs.LostRuns.{LostRun, is_same_loss, lost_count, untried_count}
 use Rattle.stack_recovery.specs.Surveys.{SectorState}
@@ -53,34 +52,33 @@ first-ends_after at (r ∷ more) d some low = low
 
 -- ---- the state of some sectors
 
-pub have-bad : (again bad : Bool) (runs : List LostRun) (at n : ℕ) → bad && not again ≡ true → HaveState again bad runs at n (Some (Lost (Device 0)))
-have-bad again bad runs at n is j low = cond-true (bad && not again) _ _ is
+pub have-none : (again bad : Bool) (runs : List LostRun) (at n : ℕ) (loss : SectorState) → loss ≡ or_known (bad && not again) None → length runs ≡ 0 → HaveState again bad runs at n loss
+have-none again bad [] at n loss is none j low = sym is
+have-none again bad (r ∷ more) at n loss is none j low = absurd (omega (arith, none))
 
-pub have-none : (again bad : Bool) (runs : List LostRun) (at n : ℕ) → bad && not again ≡ false → length runs ≡ 0 → HaveState again bad runs at n None
-have-none again bad [] at n not_bad none j low = cond-false (bad && not again) _ _ not_bad
-have-none again bad (r ∷ more) at n not_bad none j low = absurd (omega (arith, none))
+pub have-before : (again bad : Bool) (runs : List LostRun) (d : LostRun) (at n : ℕ) (loss : SectorState) → loss ≡ or_known (bad && not again) None → 1 ≤ length runs → EndsAfter at runs → at + n ≤ (get_or runs 0 d).first
+    → HaveState again bad runs at n loss
+have-before again bad [] d at n loss is some ends first j low = absurd (omega (arith, some))
+have-before again bad (r ∷ more) d at n loss is some ends first j low =
+    ap (or_known (bad && not again))
+    (cond-true (nat_lt (at + j) (r.first + r.count)) _ _ (lt-true (at + j) (r.first + r.count) (omega (arith, low, first)))
+    ∙ cond-false (nat_le r.first (at + j)) _ _ (le-false r.first (at + j) (omega (arith, low, first))))
+    ∙ sym is
 
-pub have-before : (again bad : Bool) (runs : List LostRun) (d : LostRun) (at n : ℕ) → bad && not again ≡ false → 1 ≤ length runs → EndsAfter at runs → at + n ≤ (get_or runs 0 d).first → HaveState again bad runs at n None
-have-before again bad [] d at n not_bad some ends first j low = absurd (omega (arith, some))
-have-before again bad (r ∷ more) d at n not_bad some ends first j low =
-    cond-false (bad && not again) _ _ not_bad
-    ∙ cond-true (nat_lt (at + j) (r.first + r.count)) _ _ (lt-true (at + j) (r.first + r.count) (omega (arith, low, first)))
-    ∙ cond-false (nat_le r.first (at + j)) _ _ (le-false r.first (at + j) (omega (arith, low, first)))
-
-pub have-within : (again bad : Bool) (runs : List LostRun) (d : LostRun) (at n : ℕ) → bad && not again ≡ false → 1 ≤ length runs → (get_or runs 0 d).first ≤ at → at + n ≤ (get_or runs 0 d).first + (get_or runs 0 d).count
+pub have-within : (again bad : Bool) (runs : List LostRun) (d : LostRun) (at n : ℕ) → 1 ≤ length runs → (get_or runs 0 d).first ≤ at → at + n ≤ (get_or runs 0 d).first + (get_or runs 0 d).count
     → HaveState again bad runs at n (Some (get_or runs 0 d).kind)
-have-within again bad [] d at n not_bad some first end j low = absurd (omega (arith, some))
-have-within again bad (r ∷ more) d at n not_bad some first end j low =
-    cond-false (bad && not again) _ _ not_bad
-    ∙ cond-true (nat_lt (at + j) (r.first + r.count)) _ _ (lt-true (at + j) (r.first + r.count) (omega (arith, low, end)))
-    ∙ cond-true (nat_le r.first (at + j)) _ _ (le-true r.first (at + j) (omega (arith, first)))
+have-within again bad [] d at n some first end j low = absurd (omega (arith, some))
+have-within again bad (r ∷ more) d at n some first end j low =
+    ap (or_known (bad && not again))
+    (cond-true (nat_lt (at + j) (r.first + r.count)) _ _ (lt-true (at + j) (r.first + r.count) (omega (arith, low, end)))
+    ∙ cond-true (nat_le r.first (at + j)) _ _ (le-true r.first (at + j) (omega (arith, first))))
 
 -- ---- the states of all sectors
 
 states-same : (again : Bool) (at : ℕ) (bads : List Bool) (runs others : List LostRun) → AreSameFrom at runs others → joined_states again at bads runs ≡ joined_states again at bads others
 states-same again at [] runs others same = refl
 states-same again at (bad ∷ bads) runs others same =
-    let here : joined_state again bad runs at ≡ joined_state again bad others at = ap (λ (s : SectorState). cond (bad && not again) (Some (Lost (Device 0))) s) (same at (omega arith)) in
+    let here : joined_state again bad runs at ≡ joined_state again bad others at = ap (or_known (bad && not again)) (same at (omega arith)) in
     ap (λ (s : SectorState). s ∷ joined_states again (suc at) bads runs) here
     ∙ ap (λ (l : List SectorState). joined_state again bad others at ∷ l) (states-same again (suc at) bads runs others (λ s low. same s (omega (arith, low))))
 
@@ -150,13 +148,6 @@ count-sum (Lost fault) n = omega arith
 count-sum (Unscraped fault) n = omega arith
 
 -- ---- what is ahead in a map
-
-losts-length : (runs : List MapRun) → length (losts runs) ≡ length (marks runs)
-losts-length [] = refl
-losts-length (r ∷ more) =
-    length-append (replicate r.count r.lost) (losts more) ∙ ap (λ (n : ℕ). n + length (losts more)) (length-replicate {A = Bool} r.count r.lost)
-    ∙ ap (λ (n : ℕ). r.count + n) (losts-length more)
-    ∙ ap (λ (n : ℕ). n + length (marks more)) (sym (length-replicate {A = Bool} r.count r.had)) ∙ sym (length-append (replicate r.count r.had) (marks more))
 
 ahead-parts : (a : Ahead) → length (marks_ahead a) ≡ a.first.count + length (marks a.rest.now)
 ahead-parts a = length-append (replicate a.first.count a.first.had) (marks a.rest.now) ∙ ap (λ (n : ℕ). n + length (marks a.rest.now)) (length-replicate {A = Bool} a.first.count a.first.had)

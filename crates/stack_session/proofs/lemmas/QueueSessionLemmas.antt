@@ -5,7 +5,7 @@ use Rattle.stack_rules.specs.Names.{mapped}
 use Rattle.stack_meaning.specs.Leaves.{AllSteady}
 use Rattle.stack_meaning.proofs.lemmas.LeafListLemmas.{some-steady}
 use Rattle.stack_lines.specs.Touches.{leaves_of}
-use Rattle.request_queue.specs.Parts.{SteadyPart}
+use Rattle.request_queue.specs.Parts.{AgreedPart}
 use Rattle.request_queue.specs.World.{World, Step}
 use Rattle.request_queue.proofs.lemmas.PremiseLemmas.{OutlivesSyncs, Passes, step-as}
 use Rattle.program_io.specs.Streams.{Streams}
@@ -21,14 +21,14 @@ Anything leaves = Unit {0}
 outlives-any : OutlivesSyncs Anything
 outlives-any = record { synced = λ leaves h. tt; unsynced = λ old new fault fails h. tt }
 
-pass-steady : (first : List Device) → AllSteady first → Passes (SteadyBeneath first) SteadyPart Anything
+pass-steady : (first : List Device) → AllSteady first → Passes (SteadyBeneath first) AgreedPart Anything
 pass-steady first steady v d at part answer v' h p = (p (some-steady (leaves_of v.config (mapped d)) first steady), tt)
 
-yields_steady : (first : List Device) → AllSteady first → Yields (Step (SteadyBeneath first)) (Step SteadyPart) Anything
-yields_steady first steady w e w' h s = step-as (SteadyBeneath first) SteadyPart Anything (pass-steady first steady) outlives-any w e w' h s
+yields_steady : (first : List Device) → AllSteady first → Yields (Step (SteadyBeneath first)) (Step AgreedPart) Anything
+yields_steady first steady w e w' h s = step-as (SteadyBeneath first) AgreedPart Anything (pass-steady first steady) outlives-any w e w' h s
 
--- each part of each request is what the stack means
+-- each part of each request is what the stack means, if the backing devices agree with what parity restores on them
 pub steady-session : (first last : World) (old new : Streams) (result : Result Unit SessionFault) → AllSteady first.stack.leaves → IsQueueSession first last old new result
-    → IsSession (Replies (Step SteadyPart)) first last old new result
+    → IsSession (Replies (Step AgreedPart)) first last old new result
 steady-session first last old new result steady q =
-    session-as (Step (SteadyBeneath first.stack.leaves)) (Step SteadyPart) Anything (yields_steady first.stack.leaves steady) first last old new result tt q.steady
+    session-as (Step (SteadyBeneath first.stack.leaves)) (Step AgreedPart) Anything (yields_steady first.stack.leaves steady) first last old new result tt q.steady

@@ -6,7 +6,7 @@ use Rattle.nbd_server.proofs.delivery.deliver.Goals as goal
 
 pub pieces-init : goal.pieces-init
 pieces-init g c = record {
-  underway = underway-none (export_record c.args.export.now) c.args.delivery c.args.queue.now (g.W.Write.contents c.args.writer.now.inner) c.requires;
+  underway = rw c.none-progress.ensures (underway-none (export_record c.args.export.now) c.args.delivery c.args.queue.now (g.W.Write.contents c.args.writer.now.inner) c.requires);
   kept = refl;
 }
 

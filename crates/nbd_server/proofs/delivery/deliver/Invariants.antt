@@ -1,6 +1,7 @@
-use Rattle.std.proofs.Common.{◌≡◌, ◌+◌, ◌-◌, ◌*◌}
+use Rattle.std.proofs.Common.{◌≡◌}
 use Rattle.nbd_protocol.specs.Exports.{export_record}
 use Rattle.nbd_server.proofs.DeliveryLemmas.{IsUnderway}
+use Rattle.nbd_server.proofs.ProgressLemmas.{left_of}
 use Rattle.nbd_server.proofs.delivery.deliver.Given as goal
 
 -- the pieces so far were answered
@@ -10,6 +11,6 @@ invariant-pieces g l = record {
   kept : l.writer.failed ≡ l.fn.writer.failed;
 }
 
--- a piece is answered, or put off once
+-- a piece is answered, or read again by smaller ones
 abbrev pub decreases-pieces : goal.decreases-pieces
-decreases-pieces g l = 2 * (l.delivery.count - l.progress.done) + (1 - (l.progress.slow - l.progress.done))
+decreases-pieces g l = left_of l.delivery.count l.progress

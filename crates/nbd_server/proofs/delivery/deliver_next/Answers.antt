@@ -66,7 +66,7 @@ returns-then-status-clause-ok g c =
     let status = zeros-told w.stack.config e c.at-at.result c.piece_len-size.result (next_size w.stack.config c.args.export.now.device.0 c.args.delivery c.args.progress) c.status_at-status.result is told c.if-status.true in
     let old = g.W.Write.contents c.args.writer.now.inner in
     let new = g.W.Write.contents c.say_zeros.new.writer.inner in
-    piece-hole (export_record c.args.export.now) c.args.delivery c.args.progress w w count c.at-at.result c.at-at.ensures part old new front zeros status refl c.in_ok-say_zeros.ensures.ok
+    rw c.after.ensures (piece-hole (export_record c.args.export.now) c.args.delivery c.args.progress w w count c.at-at.result c.at-at.ensures part old new front zeros status refl c.in_ok-say_zeros.ensures.ok)
 
 pub returns-then-status-clause-kept : goal.returns-then-status-clause-kept
 returns-then-status-clause-kept g c = c.in_ok-say_zeros.ensures.kept

@@ -59,20 +59,21 @@ returns-in_ok-say_piece-in-Ok-clause-ok g c =
     let content = c.part-content.result.now in
     let held : length content ≡ size = ap (λ (l : List ℕ). length l) c.part-content.ensures ∙ part-size c.read_piece.new.room.bytes (at % 512) size c.read_piece.ensures.inside in
     let reads : ReadsExport e w at size (Ok content) w' = subst (λ (l : List ℕ). ReadsExport e w at size (Ok l) w') (sym c.part-content.ensures) c.in-Ok.ensures.ok in
-    piece-sent e c.args.delivery c.args.piece.progress w w' size at c.at-at.ensures c.requires.piece old new (length content) held content reads c.in_ok-say_piece-in-Ok.ensures.ok
+    rw c.after.ensures (piece-sent e c.args.delivery c.args.piece.progress w w' size at c.at-at.ensures c.requires.piece old new (length content) held content reads c.in_ok-say_piece-in-Ok.ensures.ok)
 
 pub returns-in_ok-say_piece-in-Ok-clause-kept : goal.returns-in_ok-say_piece-in-Ok-clause-kept
 returns-in_ok-say_piece-in-Ok-clause-kept g c = c.in_ok-say_piece-in-Ok.ensures.kept
 
 -- ---- it wasn't
 
-pub returns-then-touched-gt1-clause-ok : goal.returns-then-touched-gt1-clause-ok
-returns-then-touched-gt1-clause-ok g c =
+pub returns-then-sectors-gt1-clause-ok : goal.returns-then-sectors-gt1-clause-ok
+returns-then-sectors-gt1-clause-ok g c =
     let old = g.W.Write.contents c.args.writer.now.inner in
     let at = c.at-at.result in
     let size = c.args.piece.size in
-    let several : 1 < touched at size = omega (arith, c.touched.ensures, c.if-touched-gt1.true) in
-    piece-put_off (export_record c.args.export.now) c.args.delivery c.args.piece.progress c.args.queue.now c.read_piece.new.queue size at c.at-at.ensures c.requires.piece old old c.in-Err.error c.in-Err.ensures.err several refl
+    let several : 1 < touched at size = omega (arith, c.touched-sectors.ensures, c.if-sectors-gt1.true) in
+    rw (c.again.ensures, c.touched-sectors.ensures)
+    (piece-put_off (export_record c.args.export.now) c.args.delivery c.args.piece.progress c.args.queue.now c.read_piece.new.queue size at c.at-at.ensures c.requires.piece old old c.in-Err.error c.in-Err.ensures.err several refl)
 
 pub returns-in_err-say_error_at-in-Err-clause-err : goal.returns-in_err-say_error_at-in-Err-clause-err
 returns-in_err-say_error_at-in-Err-clause-err g c =
@@ -80,7 +81,7 @@ returns-in_err-say_error_at-in-Err-clause-err g c =
     let new = g.W.Write.contents c.say_error_at.new.writer.inner in
     let at = c.at-at.result in
     let size = c.args.piece.size in
-    let few : touched at size ≤ 1 = omega (arith, c.touched.ensures, c.if-touched-gt1.false) in
+    let few : touched at size ≤ 1 = omega (arith, c.touched-sectors.ensures, c.if-sectors-gt1.false) in
     let p = err_from_is_err_and c.from_residual-in_err-say_error_at-in-Err.result c.from_residual-in_err-say_error_at-in-Err.ensures.1 in
     rw p.1 (lost-stuck (export_record c.args.export.now) c.args.delivery c.args.piece.progress c.args.queue.now c.read_piece.new.queue size at c.at-at.ensures c.requires.piece old new c.in-Err.error c.in-Err.ensures.err few)
 
@@ -95,7 +96,7 @@ returns-in_ok-say_error_at-in-Err-clause-ok g c =
     let new = g.W.Write.contents c.say_error_at.new.writer.inner in
     let at = c.at-at.result in
     let size = c.args.piece.size in
-    let few : touched at size ≤ 1 = omega (arith, c.touched.ensures, c.if-touched-gt1.false) in
+    let few : touched at size ≤ 1 = omega (arith, c.touched-sectors.ensures, c.if-sectors-gt1.false) in
     let lost = piece-lost (export_record c.args.export.now) c.args.delivery c.args.piece.progress c.args.queue.now c.read_piece.new.queue size at c.at-at.ensures c.requires.piece old new c.in-Err.error c.in-Err.ensures.err few in
     (error_at_chunk c.args.delivery.cookie at (reported_error c.in-Err.error) (failure_text c.in-Err.error), lost.0, lost.1, rw (c.reported.ensures, c.as_bytes-told.ensures.value, c.of-text.ensures) at c.in_ok-say_error_at-in-Err.ensures.ok)
 

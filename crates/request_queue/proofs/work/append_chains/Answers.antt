@@ -1,4 +1,4 @@
-use Rattle.std.proofs.Common.{◌≡◌, ◌++◌, ◌∷◌, [], List, length, reverse, sym, ap, ◌∙◌, arith}
+use Rattle.std.proofs.Common.{◌≡◌, ◌++◌, ◌∷◌, [], List, reverse, sym, ap, ◌∙◌, arith}
 use Rattle.std.proofs.lemmas.List.{append-nil, append_assoc, nil_from_length, reverse-append, reverse-reverse}
 use Rattle.stack_meaning.specs.Found.{FoundRecord}
 use Rattle.request_queue.proofs.work.append_chains.Goals as goal

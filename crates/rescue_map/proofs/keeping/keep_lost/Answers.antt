@@ -1,8 +1,8 @@
 use Rattle.std.proofs.Common.{◌≡◌, ◌++◌, ◌≤◌, ◌^◌, ℕ, Bool, List, length, replicate, sym, ap, ap₂, ◌∙◌, arith}
 use Rattle.rescue_map.specs.Aheads.{losts_ahead, marks_ahead}
 use Rattle.rescue_map.specs.declared.map.Run.{Run}
-use Rattle.rescue_map.specs.Maps.{joined, kept_had, kept_lost, losts, marks}
-use Rattle.rescue_map.proofs.JoinLemmas.{first-inside, joined-all, joined-more, left-more}
+use Rattle.rescue_map.specs.Maps.{joined, kept_had, left_lost, losts, marks}
+use Rattle.rescue_map.proofs.JoinLemmas.{first-inside, joined-all, joined-more, left_lost-all, left_lost-more, left-more}
 use Rattle.rescue_map.proofs.SpliceLemmas.{length-more}
 use Rattle.rescue_map.proofs.keeping.keep_lost.Goals as goal
 
@@ -10,9 +10,12 @@ pub runs-init : goal.runs-init
 runs-init c =
     let behind : List Bool = losts_ahead c.of_map-old.result in
     let ahead : List Bool = marks_ahead c.of_map-new.result in
+    let found : List Bool = losts_ahead c.of_map-new.result in
     record {
       had = ap (λ (l : List Run). marks l ++ joined (kept_had c.args.again) behind ahead) c.new-map.ensures ∙ ap₂ (joined (kept_had c.args.again)) c.of_map-old.ensures.lost c.of_map-new.ensures.marks;
-      bad = ap (λ (l : List Run). losts l ++ joined (kept_lost c.args.again) behind ahead) c.new-map.ensures ∙ ap₂ (joined (kept_lost c.args.again)) c.of_map-old.ensures.lost c.of_map-new.ensures.marks;
+      bad = ap (λ (l : List Run). losts l ++ left_lost c.args.again behind ahead found) c.new-map.ensures
+          ∙ ap₂ (λ (before after : List Bool). left_lost c.args.again before after found) c.of_map-old.ensures.lost c.of_map-new.ensures.marks
+          ∙ ap (left_lost c.args.again (losts c.args.before.now) (marks c.args.after.now)) c.of_map-new.ensures.lost;
       here = omega (arith, ap (λ (l : List Run). length (marks l)) c.new-map.ensures);
       old_left = ap length c.of_map-old.ensures.marks ∙ c.requires.before;
       new_left = ap length c.of_map-new.ensures.marks ∙ c.requires.after;
@@ -48,9 +51,11 @@ runs-preserved c =
     sym c.next_run-lost.ensures.same ∙ c.pass.ensures.marks ∙ ap (λ (r : Run). replicate n r.had ++ marks_ahead c.pass.new.self) (sym c.next_run-lost.ensures.first) in
     let b_had : marks_ahead c.runs.new ≡ replicate n b.had ++ marks_ahead c.pass-in-runs.new.self =
     sym c.next_run-had.ensures.same ∙ c.pass-in-runs.ensures.marks ∙ ap (λ (r : Run). replicate n r.had ++ marks_ahead c.pass-in-runs.new.self) (sym c.next_run-had.ensures.first) in
+    let b_lost : losts_ahead c.runs.new ≡ replicate n b.lost ++ losts_ahead c.pass-in-runs.new.self =
+    sym c.next_run-had.ensures.lost ∙ c.pass-in-runs.ensures.lost ∙ ap (λ (r : Run). replicate n r.lost ++ losts_ahead c.pass-in-runs.new.self) (sym c.next_run-had.ensures.first) in
     record {
       had = joined-more (kept_had c.args.again) n a.lost b.had (marks c.runs.map) (marks c.push.new.self) _ _ _ _ (c.in_ok-push.ensures.marks ∙ ap (λ (h : Bool). marks c.runs.map ++ replicate n h) c.kept_had.ensures) a_lost b_had ∙ u.had;
-      bad = joined-more (kept_lost c.args.again) n a.lost b.had (losts c.runs.map) (losts c.push.new.self) _ _ _ _ (c.in_ok-push.ensures.lost ∙ ap (λ (h : Bool). losts c.runs.map ++ replicate n h) c.kept_lost.ensures) a_lost b_had ∙ u.bad;
+      bad = left_lost-more c.args.again n a.lost b.had b.lost (losts c.runs.map) (losts c.push.new.self) _ _ _ _ _ _ (c.in_ok-push.ensures.lost ∙ ap (λ (h : Bool). losts c.runs.map ++ replicate n h) c.is_bad.ensures) a_lost b_had b_lost ∙ u.bad;
       here = omega (arith, u.here, length-more (marks c.runs.map) (marks c.push.new.self) n c.kept_had.result c.in_ok-push.ensures.marks, le);
       old_left = left-more n a.had (marks_ahead c.runs.old) (marks_ahead c.pass.new.self) c.runs.left a_had u.old_left;
       new_left = left-more n b.had (marks_ahead c.runs.new) (marks_ahead c.pass-in-runs.new.self) c.runs.left b_had u.new_left;
@@ -60,7 +65,8 @@ pub returns-clause-marks : goal.returns-clause-marks
 returns-clause-marks c = joined-all (kept_had c.args.again) (marks c.runs.map) (losts_ahead c.runs.old) (marks_ahead c.runs.new) _ (omega (arith, c.runs.invariant.new_left, c.runs-test.false)) c.runs.invariant.had
 
 pub returns-clause-lost : goal.returns-clause-lost
-returns-clause-lost c = joined-all (kept_lost c.args.again) (losts c.runs.map) (losts_ahead c.runs.old) (marks_ahead c.runs.new) _ (omega (arith, c.runs.invariant.new_left, c.runs-test.false)) c.runs.invariant.bad
+returns-clause-lost c =
+    left_lost-all c.args.again (losts c.runs.map) (losts_ahead c.runs.old) (marks_ahead c.runs.new) (losts_ahead c.runs.new) _ (omega (arith, c.runs.invariant.new_left, c.runs-test.false)) c.runs.invariant.bad
 
 pub returns-clause-sectors : goal.returns-clause-sectors
 returns-clause-sectors c = omega (arith, c.runs.invariant.here, c.runs-test.false)

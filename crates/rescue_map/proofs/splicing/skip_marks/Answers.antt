@@ -1,11 +1,11 @@
-use Rattle.std.proofs.Common.{◌≡◌, ◌++◌, ◌≤◌, ℕ, Bool, replicate, refl, sym, ap, ◌∙◌, arith}
-use Rattle.rescue_map.specs.Aheads.{marks_ahead}
+use Rattle.std.proofs.Common.{◌≡◌, ◌++◌, ◌≤◌, ℕ, replicate, refl, sym, ap, ◌∙◌, arith}
+use Rattle.rescue_map.specs.Aheads.{losts_ahead, marks_ahead}
 use Rattle.rescue_map.specs.declared.map.Run.{Run}
 use Rattle.rescue_map.proofs.SpliceLemmas.{enough-more, rest-more}
 use Rattle.rescue_map.proofs.splicing.skip_marks.Goals as goal
 
 pub runs-init : goal.runs-init
-runs-init c = record { rest = refl; enough = c.requires }
+runs-init c = record { rest = refl; lost_rest = refl; enough = c.requires }
 
 pub runs-preserved : goal.runs-preserved
 runs-preserved c =
@@ -13,10 +13,13 @@ runs-preserved c =
     let run : Run = c.next_run-run.result in
     let n : ℕ = c.min-count.result in
     let le : n ≤ c.runs.left = omega (arith, c.min-count.ensures) in
-    let had = ap (λ (r : Run). r.had) (sym c.next_run-run.ensures.first) in
+    let first : c.next_run-run.new.self.first ≡ run = sym c.next_run-run.ensures.first in
     let is : marks_ahead c.runs.ahead ≡ replicate n run.had ++ marks_ahead c.pass.new.self =
-    sym c.next_run-run.ensures.same ∙ c.pass.ensures.marks ∙ ap (λ (h : Bool). replicate n h ++ marks_ahead c.pass.new.self) had in
+    sym c.next_run-run.ensures.same ∙ c.pass.ensures.marks ∙ ap (λ (r : Run). replicate n r.had ++ marks_ahead c.pass.new.self) first in
+    let bad : losts_ahead c.runs.ahead ≡ replicate n run.lost ++ losts_ahead c.pass.new.self =
+    sym c.next_run-run.ensures.lost ∙ c.pass.ensures.lost ∙ ap (λ (r : Run). replicate n r.lost ++ losts_ahead c.pass.new.self) first in
     record {
       rest = rest-more _ _ n c.runs.left run.had le is ∙ u.rest;
+      lost_rest = rest-more _ _ n c.runs.left run.lost le bad ∙ u.lost_rest;
       enough = enough-more _ _ n c.runs.left run.had le is u.enough;
     }

@@ -27,8 +27,7 @@ use Rattle.stack_rules.specs.declared.lower.DevId.{DevId}
 use Rattle.stack_rules.specs.declared.lower.Lower.TheVariants.{Leaf}
 use Rattle.stack_rules.specs.declared.lower.Lower.{Lower}
 use Rattle.stack_meaning.specs.declared.fault.Fault.TheVariants.{ErrorTarget, Mismatch}
-use Rattle.stack_meaning.specs.declared.fault.Fault.{Fault}
-use Rattle.stack_meaning.specs.declared.fault.IoFault.TheVariants.{Device, Stack, NoMemory}
+use Rattle.stack_meaning.specs.declared.fault.IoFault.TheVariants.{Stack, NoMemory}
 use Rattle.stack_lines.specs.declared.source.Source.{Source}
 use Rattle.stack_lines.specs.declared.source.Source.TheVariants.{Below, Units, UnitPart, Block, Zeros}
 use Rattle.stack_meaning.specs.Found.{Entry, FoundRecord, found_entry}
@@ -51,7 +50,7 @@ use Rattle.stack_engine.proofs.BlockPartLemmas.{kept_at, kept_for, kept_length, 
 use Rattle.stack_lines.specs.declared.source.CryptPart.{CryptPart}
 use Rattle.stack_lines.specs.Sources.{AreUnits}
 use Rattle.stack_engine.proofs.lemmas.BlockLemmas.{distinct-push, length-content}
-use Rattle.stack_engine.proofs.lemmas.WalkLemmas.{checked_ok, checked_err, data_zeros, data_read, data_healed, walk_full}
+use Rattle.stack_engine.proofs.lemmas.WalkLemmas.{checked_ok, checked_err, checked_differs, data_zeros, data_read, data_answered, walk_full}
 use Rattle.stack_meaning.proofs.lemmas.LeafLemmas.{all-whole}
 use Rattle.stack_meaning.specs.Units.{per_unit, decrypted_units}
 use Rattle.stack_lines.proofs.lemmas.UnitSourceLemmas.{units-bytes, whole-units, part-read, part-failed, units-read, units-failed}
@@ -61,7 +60,8 @@ use Rattle.verified_cache.specs.Cache.{CachedBlock}
 use Rattle.stack_lines.specs.AtOnce.{CanGo}
 use Rattle.stack_lines.specs.Caches.{IsCached}
 use Rattle.stack_engine.proofs.PathLemmas.{path-read, path-hit, path-put, path-down, path-failed, path-stopped, path-ended, path-whole, walk-begins, no_block}
-use Rattle.stack_engine.proofs.BlocksLemmas.{blocks-at, blocks-meet}
+use Rattle.stack_engine.proofs.BlocksAtLemmas.{blocks-at}
+use Rattle.stack_engine.proofs.BlocksLemmas.{blocks-meet}
 use Rattle.stack_engine.proofs.NextBlockLemmas.{sub-same, digest-count, blocks-long, way-whole, block-begin, far, row-next, row-fails, row-ahead, checked-none, turn-at, way-fails, way-costs, row-at, row-got, row-costs, put-at, row-covers, checked-as, checked-all}
 use Rattle.stack_engine.proofs.NextSettledLemmas.{digest-made, block-costs, block-full, block-checked, rest-ahead, stood-len}
 use Rattle.stack_engine.proofs.SettledLemmas.{settled-given, settled-got, settled-moved, settled-on, settles-at, unsettled, unsettled-given}
@@ -72,7 +72,7 @@ use Rattle.stack_lines.specs.Touches.{leaves_of}
 use Rattle.stack_meaning.proofs.lemmas.LeafListLemmas.{AreRead-none}
 use Rattle.stack_engine.proofs.SpentLemmas.{IsCutBehind, block-spent, had-spent}
 use Rattle.stack_lines.proofs.lemmas.TouchLemmas.{data-within}
-use Rattle.stack_lines.proofs.lemmas.AskLemmas.{asks-none, asks-then, asks-as, asks-up}
+use Rattle.stack_lines.proofs.lemmas.AskLemmas.{asks-less, asks-none, asks-then, asks-as, asks-up}
 use Rattle.stack_engine.proofs.TouchedLemmas.{extent-touched, same-within, hash-touched, hash-within-device, data-touched}
 use Rattle.stack_engine.specs.Backings.{did, backing_of, served}
 use Rattle.stack_engine.specs.Restored.{serving}
@@ -91,7 +91,7 @@ use Rattle.stack_engine.specs.SectorCalls.{DataPlace, other_at, other_by, sums_o
 use Rattle.stack_engine.specs.Spares.{HealsBy, IsStoredAt, other_wanted, stored_wanted}
 use Rattle.stack_engine.specs.declared.rows.JudgedBlock.{JudgedBlock}
 use Rattle.stack_engine.specs.declared.spare.Stored.{Stored}
-use Rattle.stack_engine.proofs.HealLemmas.{asks-unhealed, heals-failed, heals-had, heals-short}
+use Rattle.stack_engine.proofs.HealLemmas.{asks-healed, asks-unhealed, asks-vain, heals-failed, heals-had, heals-short}
 use Rattle.stack_engine.proofs.MendCallLemmas.{leads-then, other-added, other-lost, other-past, spare-given, spare-lost, spare-other, spare-past, stored-given, stored-lost}
 use Rattle.stack_engine.proofs.lemmas.MendLemmas.{IsSummed, spare-differs, spare-ends, spare-none, stored-fails, summed-fails, summed-more, summed-none}
 use Rattle.stack_engine.proofs.lemmas.RoundLemmas.{is-round, mend-inside, other-given, other-none, other-of, other-read, other-unread, parity-of, stored-count, stored-read, stored-unread}
@@ -464,7 +464,7 @@ read_block-returns-in-Some-clause-step g t c =
     let config = c.args.config.now in
     let leaves = map g.D.BlockDev.state c.args.backing.now.devices.items in
     let meets = block-meets config c.args.part (length c.args.out.now / 512) (omega (arith, c.requires.fits.sectors.some, c.requires.fits.sectors.whole)) in
-    step-none c.requires.stack.cached (met meets) (asks-none (leaves_of config (mapped c.args.part.device.0)) leaves (Ok tt) tt refl)
+    step-none c.requires.stack.cached (met meets) (asks-none _ (leaves_of config (mapped c.args.part.device.0)) leaves (Ok tt) tt refl)
 
 pub read_block-returns-in-Err-clause-step : goal.read_block-returns-in-Err-clause-step
 read_block-returns-in-Err-clause-step g t c =
@@ -520,6 +520,22 @@ read_checked-returns-then-eq-clause-reads g t c =
     let got = subst (λ (k : ℕ). ReadsAs Kept c.args.config.now e.lower e.first k (record { old = map state c.args.backing.now.devices.items; new = map state c.read_lower.new.backing.devices.items; before = c.new-beneath.result.items; after = c.read_lower.new.found.items }) (Ok out)) count c.in-Ok-read_lower.ensures.reads in
     checked_ok bytes (place_of c.args.config.now e.lower) e.first e.sectors c.args.salt.now c.args.expected.now got.after (with_items block out) items
     (ap (digest c.args.salt.now) (sym value) ∙ sym c.digest.ensures ∙ good) got.reads.got
+
+pub read_checked-returns-else-eq-clause-reads : goal.read_checked-returns-else-eq-clause-reads
+read_checked-returns-else-eq-clause-reads g t c =
+    let e = c.args.extent in
+    let state = g.D.BlockDev.state in
+    let block = c.in-Ok.block in
+    let out = c.read_lower.new.out in
+    let held : length out ≡ block.len = c.read_lower.auto.out ∙ ap (λ (l : List ℕ). length l) c.as_mut_slice.ensures.value ∙ sym block.ok.0 in
+    let value : c.as_slice.result.now ≡ out = c.as_slice.ensures.value ∙ with_items_is block out held in
+    let count : length c.as_mut_slice.result.now / 512 ≡ e.sectors = omega (arith, held, c.in-Ok.ensures.ok, c.read_lower.auto.out) in
+    let other : digest c.args.salt.now out ≡ c.args.expected.now → ⊥ = λ same.
+    let made : c.digest.result ≡ c.args.expected.now = c.digest.ensures ∙ ap (digest c.args.salt.now) value ∙ same in
+    let clash : false ≡ true = sym c.if-eq.false ∙ c.eq.ensures ∙ (bytes_eq-Decides c.digest.result c.args.expected.now).1 made in
+    cc in
+    let got = subst (λ (k : ℕ). ReadsAs Kept c.args.config.now e.lower e.first k (record { old = map state c.args.backing.now.devices.items; new = map state c.read_lower.new.backing.devices.items; before = c.new-beneath.result.items; after = c.read_lower.new.found.items }) (Ok out)) count c.in-Ok-read_lower.ensures.reads in
+    checked_differs bytes (place_of c.args.config.now e.lower) e.first e.sectors c.args.salt.now c.args.expected.now got.after other got.reads.got
 
 -- ---- the walk
 
@@ -633,7 +649,7 @@ pub hash_block-returns-in-Err-clause-reads : goal.hash_block-returns-in-Err-clau
 hash_block-returns-in-Err-clause-reads g t c = record {
   moved = AreRead-none _ (map g.D.BlockDev.state c.args.backing.now.devices.items);
   may = c.in-Err.ensures.err largest_allocation (cached-small c.args.config.now c.requires.stack.sound.loaded _ c.args.backing.now.cache.blocks.blocks c.requires.stack.cached.kept);
-  exact = λ steady. tt;
+  exact = λ sure. tt;
 }
 
 pub hash_block-returns-in-Err-clause-cached : goal.hash_block-returns-in-Err-clause-cached
@@ -696,12 +712,12 @@ path_block-returns-then-stands-clause-reads g t c x =
 pub path_block-returns-in-Err-clause-reads : goal.path_block-returns-in-Err-clause-reads
 path_block-returns-in-Err-clause-reads g t c x =
     let got = block_there c.args.config.now c.args.verity.now c.args.tree.now c.args.wanted.now.level c.args.wanted.now.block c.hash_extent-extent.result c.hash_extent-extent.ensures (Err c.in-Err.fault) c.in-Err.ensures.reads in
-    record { moved = got.moved; may = got.may; exact = got.exact }
+    record { moved = got.moved; may = got.may; exact = λ sure. got.exact (record { steady = sure.steady; agrees = sure.agrees }) }
 
 pub path_block-returns-in-Err-put-clause-reads : goal.path_block-returns-in-Err-put-clause-reads
 path_block-returns-in-Err-put-clause-reads g t c x =
     let got = block_there c.args.config.now c.args.verity.now c.args.tree.now c.args.wanted.now.level c.args.wanted.now.block c.hash_extent-extent.result c.hash_extent-extent.ensures (Ok c.in-Ok.bytes) c.in-Ok.ensures.reads in
-    record { moved = got.moved; may = c.in-Err-put.ensures.err; exact = λ steady. tt }
+    record { moved = got.moved; may = c.in-Err-put.ensures.err; exact = λ sure. tt }
 
 pub path_block-returns-in-Ok-put-clause-reads : goal.path_block-returns-in-Ok-put-clause-reads
 path_block-returns-in-Ok-put-clause-reads g t c x =
@@ -718,7 +734,7 @@ path_block-returns-in-Ok-put-clause-reads g t c x =
     let here : get_or c.put.new.path.items w.at x ≡ one =
     ap (λ (l : List CachedBlock). get_or l w.at x) c.in-Ok-put.ensures.ok ∙ ap (λ (k : ℕ). get_or (take w.at path ++ (one ∷ [])) k x) front ∙ get_or-append_seam (take w.at path) one [] x in
     subst (λ (b : List ℕ). Gets (checked_expected (λ (block : List ℕ). block) (place_of config c.args.tree.now.hash) (hash_start v w.level w.block) (hash_sectors v) v.salt w.digest) old new (Ok b))
-    (sym (ap (λ (b : CachedBlock). b.bytes) here)) (record { moved = got.moved; may = got.may; exact = got.exact })
+    (sym (ap (λ (b : CachedBlock). b.bytes) here)) (record { moved = got.moved; may = got.may; exact = λ sure. got.exact (record { steady = sure.steady; agrees = sure.agrees }) })
 
 pub path_block-returns-in-Err-clause-held : goal.path_block-returns-in-Err-clause-held
 path_block-returns-in-Err-clause-held g t c = path-read c.args.config.now c.args.path.now.items c.in-Err.ensures.reads.moved c.requires.held
@@ -855,7 +871,7 @@ read_blocks-checks-init g t c =
     record {
       checked = checked-none b c.args.chains _ _ (ap (λ (l : List (List ℕ)). length l) c.as_mut_slice-made.ensures.value) c.new-path.ensures.items c.requires.kept;
       cached = record { capacity = refl; sound = c.requires.stack.cached };
-      touches = asks-none (leaves_of c.args.config.now (mapped c.args.part.device.0)) (map g.D.BlockDev.state c.args.backing.now.devices.items) (Ok tt) tt refl;
+      touches = asks-none _ (leaves_of c.args.config.now (mapped c.args.part.device.0)) (map g.D.BlockDev.state c.args.backing.now.devices.items) (Ok tt) tt refl;
       given = blocks-begin c.args.out.now;
     }
 
@@ -1239,8 +1255,17 @@ read_beneath-returns-clause-reads g t c = record { chains = c.read_lower.ensures
 
 -- ---- which leaves are touched
 
+pub read_beneath-returns-clause-touches : goal.read_beneath-returns-clause-touches
+read_beneath-returns-clause-touches g t c = asks-less (λ none meets. none) c.read_lower.ensures.step.touches
+
+pub read_checked-returns-in-Err-read_lower-clause-touches : goal.read_checked-returns-in-Err-read_lower-clause-touches
+read_checked-returns-in-Err-read_lower-clause-touches g t c = asks-less (λ none meets. none) (asks-as (Err c.in-Err-read_lower.fault) c.in-Err-read_lower.ensures.step.touches.fault (λ failures. refl) c.in-Err-read_lower.ensures.step.touches)
+
+pub read_checked-returns-else-eq-clause-touches : goal.read_checked-returns-else-eq-clause-touches
+read_checked-returns-else-eq-clause-touches g t c = asks-less (λ none meets. none) (asks-as (Err (Stack Mismatch)) tt (λ failures. refl) c.in-Ok-read_lower.ensures.step.touches)
+
 pub read_checked-returns-then-eq-clause-touches : goal.read_checked-returns-then-eq-clause-touches
-read_checked-returns-then-eq-clause-touches g t c = asks-as (Ok (with_items c.in-Ok.block c.read_lower.new.out)) tt (λ failures. refl) c.in-Ok-read_lower.ensures.step.touches
+read_checked-returns-then-eq-clause-touches g t c = asks-less (λ none meets. none) (asks-as (Ok (with_items c.in-Ok.block c.read_lower.new.out)) tt (λ failures. refl) c.in-Ok-read_lower.ensures.step.touches)
 
 pub walk-returns-in-Err-clause-touches : goal.walk-returns-in-Err-clause-touches
 walk-returns-in-Err-clause-touches g t c =
@@ -1421,7 +1446,7 @@ walk-loop-level-init g t c =
     record {
       walked = walk-begins (block_in config v c.args.index) (sym all) (sym (ap (map bytes) c.new-path.ensures.items));
       cached = record { capacity = refl; sound = c.requires.stack.cached };
-      touches = asks-none (leaves_of config (mapped c.args.tree.now.device.0)) (map g.D.BlockDev.state devices) (Ok tt) tt refl;
+      touches = asks-none _ (leaves_of config (mapped c.args.tree.now.device.0)) (map g.D.BlockDev.state devices) (Ok tt) tt refl;
       given = ([], subst (λ (k : ℕ). LeadsTo (DeviceDoes g.D.BlockDev.state g.D.BlockDev.does) config (whole_data place one_block) (data_of place k v.root [] one_block) (served c.args.backing.now) (served c.args.backing.now)) (sym all) (leads-begin (whole_data place one_block)));
     }
 
@@ -1437,7 +1462,7 @@ walk_path-loop-left-init g t c =
       walked = walk-begins (block_in config v c.args.index) (sym all) refl;
       held = c.requires.held;
       cached = record { capacity = refl; sound = c.requires.stack.cached };
-      touches = asks-none (leaves_of config c.args.tree.now.hash) (map g.D.BlockDev.state devices) (Ok tt) tt refl;
+      touches = asks-none _ (leaves_of config c.args.tree.now.hash) (map g.D.BlockDev.state devices) (Ok tt) tt refl;
       given = λ next. subst (λ (k : ℕ). LeadsTo (DeviceDoes g.D.BlockDev.state g.D.BlockDev.does) config (whole_data place next) (data_of place k v.root [] next) (served c.args.backing.now) (served c.args.backing.now)) (sym all) (leads-begin (whole_data place next));
     }
 
@@ -1954,7 +1979,7 @@ mend-loop-place-init g t c =
           let round = is-round config v tree c.requires.stack.sound.loaded c.requires.block.lies index c.requires.block.there q has in
           subst (λ (x : List ℕ). IsSummed (block_in config v index) q 0 x leaves leaves) (sym zeros) (summed-none (block_in config v index) q has round.some round.few round.low leaves);
       cached = record { capacity = refl; sound = c.requires.stack.cached };
-      touches = asks-none (leaves_of config (mapped tree.device.0)) leaves (Ok tt) tt refl;
+      touches = asks-none _ (leaves_of config (mapped tree.device.0)) leaves (Ok tt) tt refl;
       given = λ q has. subst (λ (x : List ℕ). LeadsTo (DeviceDoes g.D.BlockDev.state g.D.BlockDev.does) config (sums_of (place_in v tree index) q 0 (zero_block v)) (sums_of (place_in v tree index) q 0 x) (served c.args.backing.now) (served c.args.backing.now)) (sym zeros) (leads-begin (sums_of (place_in v tree index) q 0 (zero_block v)));
     }
 
@@ -2052,6 +2077,12 @@ mend-returns-then-eq-clause-reads g t c =
     spare-ends (block_in config v index) q has round.some round.few round.low c.args.lost.now.digest (omega (arith, c.loop-place-test.false, c.loop-place.invariant.within)) (c.loop-place.invariant.summed q has) (c.in-Ok-add_parity.ensures.reads q has)
     (omega (arith, c.add_parity.auto.sums, c.loop-place.auto.out, c.fill_zeros.auto.out, c.requires.size, whole.whole)) (sym c.digest.ensures ∙ good)
 
+pub mend-returns-then-eq-clause-touches : goal.mend-returns-then-eq-clause-touches
+mend-returns-then-eq-clause-touches g t c = asks-then c.loop-place.invariant.touches c.in-Ok-add_parity.ensures.touches
+
+pub mend-returns-clause-touches : goal.mend-returns-clause-touches
+mend-returns-clause-touches g t c = asks-as (Err (Stack Mismatch)) tt (λ failures. refl) (asks-then c.loop-place.invariant.touches c.in-Ok-add_parity.ensures.touches)
+
 pub mend-returns-then-eq-clause-given : goal.mend-returns-then-eq-clause-given
 mend-returns-then-eq-clause-given g t c =
     let q = c.in-Some.parity in
@@ -2115,7 +2146,8 @@ heal-returns-in-Err-mend-clause-reads g t c =
     (heals-failed g.D.BlockDev.state c.args.config.now place c.args.lost.now c.args.fault c.in-Err-mend.vain c.in-Err-mend.ensures.reads c.in-Err-mend.ensures.given)
 
 pub heal-returns-in-Err-mend-clause-touches : goal.heal-returns-in-Err-mend-clause-touches
-heal-returns-in-Err-mend-clause-touches g t c = rw c.unhealed.ensures (asks-unhealed c.args.fault c.in-Err-mend.vain c.in-Err-mend.ensures.touches)
+heal-returns-in-Err-mend-clause-touches g t c =
+    rw c.unhealed.ensures (asks-vain c.args.verity.now.parity c.args.fault c.in-Err-mend.vain c.requires.fault.heals (λ none. none c.args.tree.now.device.0 c.args.tree.now.line c.args.verity.now c.requires.block.lies.is) c.requires.fault.named c.in-Err-mend.ensures.touches)
 
 -- ---- a block that was read together with others
 
@@ -2146,7 +2178,8 @@ settle_block-returns-in-Err-clause-touches g t c = rw c.unhealed.ensures (asks-u
 
 pub read_data-heal-requires : goal.read_data-heal-requires
 read_data-heal-requires g t c κs within =
-    (omega arith, (within, (stack-later c.args.config.now c.in-Err-Stack.ensures.reads.moved.moved.fixed c.requires.stack c.in-Err-Stack.ensures.cached, c.requires.block)))
+    let own = asks-up (data-within c.args.config.now c.args.verity.now c.args.tree.now c.requires.stack.sound.loaded c.requires.block.lies) (extent-touched c.args.config.now c.data_extent-extent.result c.data_extent-extent.ensures c.in-Err-read_checked.ensures.touches) in
+    (omega arith, (within, (stack-later c.args.config.now c.in-Err-read_checked.ensures.reads.moved.moved.fixed c.requires.stack c.in-Err-read_checked.ensures.cached, (c.requires.block, record { heals = sym c.can_heal.ensures ∙ c.if-can_heal.true; named = own.fault }))))
 
 pub read_data-returns-in-Ok-read_checked-clause-touches : goal.read_data-returns-in-Ok-read_checked-clause-touches
 read_data-returns-in-Ok-read_checked-clause-touches g t c =
@@ -2155,48 +2188,40 @@ read_data-returns-in-Ok-read_checked-clause-touches g t c =
 pub read_data-returns-in-Ok-read_checked-clause-given : goal.read_data-returns-in-Ok-read_checked-clause-given
 read_data-returns-in-Ok-read_checked-clause-given g t c last = one-given last (sym c.is_ignored.ensures ∙ c.if-is_ignored.false) c.data_extent-extent.ensures.value tt c.in-Ok-read_checked.ensures.given
 
-pub read_data-returns-in-Err-Stack-clause-reads : goal.read_data-returns-in-Err-Stack-clause-reads
-read_data-returns-in-Err-Stack-clause-reads g t c =
+pub read_data-returns-then-can_heal-clause-reads : goal.read_data-returns-then-can_heal-clause-reads
+read_data-returns-then-can_heal-clause-reads g t c =
     let v = c.args.verity.now in
     let config = c.args.config.now in
     let healed = c.heal.ensures.reads in
     let b = block_in config v c.args.index in
-    let own = checked_as config v.data c.args.tree.now.data (block_sectors v * c.args.index) (block_sectors v) v.salt c.args.expected.now (Err (Stack c.in-Err-Stack.fault)) c.data_extent-extent.result c.requires.block.lies.on_data c.data_extent-extent.ensures.value (rw c.in-Err-Stack.field-0-is at c.in-Err-Stack.ensures.reads) in
+    let own = checked_as config v.data c.args.tree.now.data (block_sectors v * c.args.index) (block_sectors v) v.salt c.args.expected.now (Err c.in-Err-read_checked.own) c.data_extent-extent.result c.requires.block.lies.on_data c.data_extent-extent.ensures.value c.in-Err-read_checked.ensures.reads in
     subst (λ (r : Result (Vec ℕ Global) IoFault). Gets (data_expected bytes b c.args.expected.now) (map g.D.BlockDev.state c.args.backing.now.devices.items) (map g.D.BlockDev.state c.heal.new.backing.devices.items) r) (sym healed.is)
-    (data_healed bytes b c.args.expected.now c.in-Err-Stack.fault (sym c.is_ignored.ensures ∙ c.if-is_ignored.false) own healed.spare healed.got)
+    (data_answered bytes b c.args.expected.now c.in-Err-read_checked.own healed.spare (sym c.can_heal.ensures ∙ c.if-can_heal.true) (sym c.is_ignored.ensures ∙ c.if-is_ignored.false) own healed.got)
 
-pub read_data-returns-in-Err-Stack-clause-touches : goal.read_data-returns-in-Err-Stack-clause-touches
-read_data-returns-in-Err-Stack-clause-touches g t c =
-    asks-then (asks-as {B = Unit {0}} (Ok tt) tt (λ failures. refl) (asks-up (data-within c.args.config.now c.args.verity.now c.args.tree.now c.requires.stack.sound.loaded c.requires.block.lies) (extent-touched c.args.config.now c.data_extent-extent.result c.data_extent-extent.ensures (rw c.in-Err-Stack.field-0-is at c.in-Err-Stack.ensures.touches))))
+pub read_data-returns-then-can_heal-clause-touches : goal.read_data-returns-then-can_heal-clause-touches
+read_data-returns-then-can_heal-clause-touches g t c =
+    asks-healed c.args.verity.now.parity c.in-Err-read_checked.own (sym c.can_heal.ensures ∙ c.if-can_heal.true) (λ none. none c.args.tree.now.device.0 c.args.tree.now.line c.args.verity.now c.requires.block.lies.is)
+    (asks-up (data-within c.args.config.now c.args.verity.now c.args.tree.now c.requires.stack.sound.loaded c.requires.block.lies) (extent-touched c.args.config.now c.data_extent-extent.result c.data_extent-extent.ensures c.in-Err-read_checked.ensures.touches))
     c.heal.ensures.touches
 
 -- the bytes of what is answered after the spare
-healed-bytes : (fault : Fault) (spare : Result (Vec ℕ Global) IoFault) → healed_result fault (block_answer spare) ≡ block_answer (healed_result fault spare)
+healed-bytes : (fault : IoFault) (spare : Result (Vec ℕ Global) IoFault) → healed_result fault (block_answer spare) ≡ block_answer (healed_result fault spare)
 healed-bytes fault (Ok x) = refl
-healed-bytes fault (Err (Stack vain)) = refl
-healed-bytes fault (Err (Device i)) = refl
-healed-bytes fault (Err NoMemory) = refl
+healed-bytes fault (Err vain) = refl
 
-pub read_data-returns-in-Err-Stack-clause-given : goal.read_data-returns-in-Err-Stack-clause-given
-read_data-returns-in-Err-Stack-clause-given g t c last =
+pub read_data-returns-then-can_heal-clause-given : goal.read_data-returns-then-can_heal-clause-given
+read_data-returns-then-can_heal-clause-given g t c last =
     let healed = c.heal.ensures.reads in
     let place = place_in c.args.verity.now c.args.tree.now c.args.index in
-    let fault = c.in-Err-Stack.fault in
+    let fault = c.in-Err-read_checked.own in
     subst (λ (r : Result (List ℕ) IoFault). ReadsBy (DeviceDoes g.D.BlockDev.state g.D.BlockDev.does) c.args.config.now (data_of place 0 c.args.expected.now last one_block) (served c.args.backing.now) (served c.heal.new.backing) r)
     (healed-bytes fault healed.spare ∙ ap block_answer (sym healed.is))
     (subst (λ s. ReadsBy (DeviceDoes g.D.BlockDev.state g.D.BlockDev.does) c.args.config.now (data_of place 0 c.args.expected.now last one_block) (served c.args.backing.now) s (healed_result fault (block_answer healed.spare))) (sym healed.counted)
-    (one-healed last (sym c.is_ignored.ensures ∙ c.if-is_ignored.false) c.data_extent-extent.ensures.value (rw c.in-Err-Stack.field-0-is at c.in-Err-Stack.ensures.given) healed.given))
+    (one-healed last (sym c.is_ignored.ensures ∙ c.if-is_ignored.false) (sym c.can_heal.ensures ∙ c.if-can_heal.true) c.data_extent-extent.ensures.value c.in-Err-read_checked.ensures.given healed.given))
 
-pub read_data-returns-in-Err-Device-clause-touches : goal.read_data-returns-in-Err-Device-clause-touches
-read_data-returns-in-Err-Device-clause-touches g t c =
-    asks-up (data-within c.args.config.now c.args.verity.now c.args.tree.now c.requires.stack.sound.loaded c.requires.block.lies) (extent-touched c.args.config.now c.data_extent-extent.result c.data_extent-extent.ensures (rw c.in-Err-Device.field-0-is at c.in-Err-Device.ensures.touches))
+pub read_data-returns-else-can_heal-clause-touches : goal.read_data-returns-else-can_heal-clause-touches
+read_data-returns-else-can_heal-clause-touches g t c =
+    asks-up (data-within c.args.config.now c.args.verity.now c.args.tree.now c.requires.stack.sound.loaded c.requires.block.lies) (extent-touched c.args.config.now c.data_extent-extent.result c.data_extent-extent.ensures c.in-Err-read_checked.ensures.touches)
 
-pub read_data-returns-in-Err-Device-clause-given : goal.read_data-returns-in-Err-Device-clause-given
-read_data-returns-in-Err-Device-clause-given g t c last = one-given last (sym c.is_ignored.ensures ∙ c.if-is_ignored.false) c.data_extent-extent.ensures.value tt (rw c.in-Err-Device.field-0-is at c.in-Err-Device.ensures.given)
-
-pub read_data-returns-in-Err-NoMemory-clause-touches : goal.read_data-returns-in-Err-NoMemory-clause-touches
-read_data-returns-in-Err-NoMemory-clause-touches g t c =
-    asks-up (data-within c.args.config.now c.args.verity.now c.args.tree.now c.requires.stack.sound.loaded c.requires.block.lies) (extent-touched c.args.config.now c.data_extent-extent.result c.data_extent-extent.ensures (rw c.in-Err-NoMemory.field-0-is at c.in-Err-NoMemory.ensures.touches))
-
-pub read_data-returns-in-Err-NoMemory-clause-given : goal.read_data-returns-in-Err-NoMemory-clause-given
-read_data-returns-in-Err-NoMemory-clause-given g t c last = one-given last (sym c.is_ignored.ensures ∙ c.if-is_ignored.false) c.data_extent-extent.ensures.value tt (rw c.in-Err-NoMemory.field-0-is at c.in-Err-NoMemory.ensures.given)
+pub read_data-returns-else-can_heal-clause-given : goal.read_data-returns-else-can_heal-clause-given
+read_data-returns-else-can_heal-clause-given g t c last = one-given last (sym c.is_ignored.ensures ∙ c.if-is_ignored.false) c.data_extent-extent.ensures.value (sym c.can_heal.ensures ∙ c.if-can_heal.false) c.in-Err-read_checked.ensures.given

@@ -12,6 +12,7 @@ use Rattle.stack_lines.specs.Sources.{source_depth}
 use Rattle.stack_lines.specs.Walks.{block_in, IsWalked}
 use Rattle.stack_lines.specs.Caches.{IsCached, KeepsCache}
 use Rattle.stack_lines.specs.Touches.{AsksOnly, leaves_of}
+use Rattle.stack_engine.specs.Healing.{HasNoParity}
 use Rattle.stack_engine.proofs.SpentLemmas.{IsCutBehind}
 use Rattle.stack_engine.proofs.NextBlockLemmas.{AreChecked}
 use Rattle.stack_engine.specs.Backings.{backing_of, served}
@@ -74,7 +75,7 @@ invariant-walk-loop-level g l = record {
   walked : IsWalked (block_in l.config l.verity l.index) l.level l.expected (map (λ b. b.items) l.path.items)
       (map g.D.BlockDev.state l.fn.backing.devices.items) (map g.D.BlockDev.state l.backing.devices.items);
   cached : KeepsCache l.config (map g.D.BlockDev.state l.backing.devices.items) l.fn.backing.cache l.backing.cache;
-  touches : AsksOnly {A = Unit {0}} (leaves_of l.config (mapped l.tree.device.0)) (map g.D.BlockDev.state l.fn.backing.devices.items) (map g.D.BlockDev.state l.backing.devices.items) (Ok tt);
+  touches : AsksOnly {A = Unit {0}} (HasNoParity l.config) (leaves_of l.config (mapped l.tree.device.0)) (map g.D.BlockDev.state l.fn.backing.devices.items) (map g.D.BlockDev.state l.backing.devices.items) (Ok tt);
   given : (last : List ℕ) × LeadsTo (DeviceDoes g.D.BlockDev.state g.D.BlockDev.does) l.config (whole_data (place_in l.verity l.tree l.index) one_block) (data_of (place_in l.verity l.tree l.index) l.level l.expected last one_block)
       (served l.fn.backing) (served l.backing);
 }
@@ -99,7 +100,7 @@ invariant-walk_path-loop-left g l = record {
       (map g.D.BlockDev.state l.fn.backing.devices.items) (map g.D.BlockDev.state l.backing.devices.items);
   held : All (IsCached l.config (map g.D.BlockDev.state l.backing.devices.items)) l.path.items;
   cached : KeepsCache l.config (map g.D.BlockDev.state l.backing.devices.items) l.fn.backing.cache l.backing.cache;
-  touches : AsksOnly {A = Unit {0}} (leaves_of l.config l.tree.hash) (map g.D.BlockDev.state l.fn.backing.devices.items) (map g.D.BlockDev.state l.backing.devices.items) (Ok tt);
+  touches : AsksOnly {A = Unit {0}} (HasNoParity l.config) (leaves_of l.config l.tree.hash) (map g.D.BlockDev.state l.fn.backing.devices.items) (map g.D.BlockDev.state l.backing.devices.items) (Ok tt);
   given : (next : DataRead) → LeadsTo (DeviceDoes g.D.BlockDev.state g.D.BlockDev.does) l.config (whole_data (place_in l.verity l.tree l.index) next)
       (data_of (place_in l.verity l.tree l.index) l.left l.digest (last_bytes (take l.at l.path.items)) next) (served l.fn.backing) (served l.backing);
 }
@@ -116,7 +117,7 @@ invariant-read_blocks-checks g l = record {
   checked : AreChecked l.config l.fn.part l.fn.chains l.fn.out l.read l.at l.out l.made l.path.items
       (map g.D.BlockDev.state l.fn.backing.devices.items) (map g.D.BlockDev.state l.backing.devices.items) l.fn.found.items l.found.items;
   cached : KeepsCache l.config (map g.D.BlockDev.state l.backing.devices.items) l.fn.backing.cache l.backing.cache;
-  touches : AsksOnly {A = Unit {0}} (leaves_of l.config (mapped l.fn.part.device.0)) (map g.D.BlockDev.state l.fn.backing.devices.items) (map g.D.BlockDev.state l.backing.devices.items) (Ok tt);
+  touches : AsksOnly {A = Unit {0}} (HasNoParity l.config) (leaves_of l.config (mapped l.fn.part.device.0)) (map g.D.BlockDev.state l.fn.backing.devices.items) (map g.D.BlockDev.state l.backing.devices.items) (Ok tt);
   given : BlocksUpTo (DeviceDoes g.D.BlockDev.state g.D.BlockDev.does) l.config l.fn.part (length l.fn.out / 512) l.read l.at l.out (served l.fn.backing) (served l.backing);
 }
 
@@ -144,7 +145,7 @@ invariant-mend-loop-place g l = record {
   within : l.place ≤ l.count;
   summed : (q : Parity) → l.verity.parity ≡ Some q → IsSummed (block_in l.config l.verity l.index) q l.place l.out (map g.D.BlockDev.state l.fn.backing.devices.items) (map g.D.BlockDev.state l.backing.devices.items);
   cached : KeepsCache l.config (map g.D.BlockDev.state l.backing.devices.items) l.fn.backing.cache l.backing.cache;
-  touches : AsksOnly {A = Unit {0}} (leaves_of l.config (mapped l.tree.device.0)) (map g.D.BlockDev.state l.fn.backing.devices.items) (map g.D.BlockDev.state l.backing.devices.items) (Ok tt);
+  touches : AsksOnly {A = Unit {0}} (HasNoParity l.config) (leaves_of l.config (mapped l.tree.device.0)) (map g.D.BlockDev.state l.fn.backing.devices.items) (map g.D.BlockDev.state l.backing.devices.items) (Ok tt);
   given : (q : Parity) → l.verity.parity ≡ Some q → LeadsTo (DeviceDoes g.D.BlockDev.state g.D.BlockDev.does) l.config (sums_of (place_in l.verity l.tree l.index) q 0 (zero_block l.verity)) (sums_of (place_in l.verity l.tree l.index) q l.place l.out)
       (served l.fn.backing) (served l.backing);
 }

@@ -1,4 +1,4 @@
-use Rattle.std.proofs.Common.{◌≡◌, ◌∙◌, ◌<◌, sym, ap, map, false, length, arith}
+use Rattle.std.proofs.Common.{◌∙◌, ◌<◌, sym, ap, map, false, length, arith}
 use Rattle.std.proofs.lemmas.List.{get_or-map, length-map}
 use Rattle.block_device.specs.Device.{Device}
 use Rattle.stack_engine.proofs.space.lacked_space.Goals as goal

@@ -34,7 +34,7 @@ use Rattle.stack_meaning.specs.Places.{LeafRead}
 use Rattle.stack_meaning.specs.Reading.{IsPlain}
 use Rattle.stack_lines.specs.Sources.{ReadsSource}
 use Rattle.stack_meaning.proofs.lemmas.LeafLemmas.{all-whole}
-use Rattle.stack_engine.proofs.UnitChangeLemmas.{part-ended, part-written}
+use Rattle.stack_engine.proofs.UnitChangeLemmas.{part-ended, part-written, unit-ends}
 use Rattle.stack_engine.proofs.UnitWriteLemmas.{lower-written, units-none, units-more, units-ended}
 use Rattle.stack_engine.proofs.RunBytesLemmas.{room_length, room_sectors, front_whole, with_run, with_rest, run_served, ends_before, ends_after, ends_behind, IsNextRun, next-run, run-fits}
 use Rattle.stack_engine.proofs.UnitStepLemmas.{step-at, step-width, step-written}
@@ -558,7 +558,7 @@ write_unit_part-returns-in-Err-clause-writes g t c =
     (all-whole state g.met.D.BlockDev.whole c.args.backing.now.devices.items)
     (subst (λ (k : ℕ). ReadsSource config (Units whole.result.from) k did (Err c.in-Err.fault)) count (kept-reads c.in-Err.ensures.reads))
     (subst (λ (k : ℕ). IsPlain (source_said config (Units whole.result.from)) 0 k old new (Err c.in-Err.fault)) count c.in-Err.ensures.step.plain)
-    c.in-Err.ensures.step.touches.ends
+    (unit-ends config c.args.part whole.result bytes n c.requires.stack.sound.loaded whole.ensures.whole c.requires.fits.holds (omega (arith, c.requires.fits.sectors.some, c.requires.fits.sectors.whole)) (omega (arith, c.requires.fits.sectors.whole)) c.requires.allowed count c.in-Err.ensures.step.touches.ends)
 
 pub write_unit_part-put_sectors-requires : goal.write_unit_part-put_sectors-requires
 write_unit_part-put_sectors-requires g t c =
@@ -610,7 +610,7 @@ write_unit_part-returns-clause-writes g t c =
     (all-whole state g.met.D.BlockDev.whole c.args.backing.now.devices.items)
     (subst (λ (k : ℕ). ReadsSource config (Units whole.result.from) k did (Ok plain)) count (kept-reads c.in-Ok.ensures.reads))
     (subst (λ (k : ℕ). IsPlain (source_said config (Units whole.result.from)) 0 k old mid (Ok tt)) count c.in-Ok.ensures.step.plain)
-    c.in-Ok.ensures.step.touches.ends
+    (unit-ends config c.args.part whole.result bytes n c.requires.stack.sound.loaded whole.ensures.whole c.requires.fits.holds (omega (arith, c.requires.fits.sectors.some, c.requires.fits.sectors.whole)) (omega (arith, c.requires.fits.sectors.whole)) c.requires.allowed count c.in-Ok.ensures.step.touches.ends)
     (c.put_sectors.ensures ∙ ap (λ (k : ℕ). take (512 * k) plain ++ bytes ++ drop (512 * k + length bytes) plain) of.within)
     c.write_units.ensures.writes
 

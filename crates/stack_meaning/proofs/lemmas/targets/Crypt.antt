@@ -24,5 +24,5 @@ crypt-laws line =
           let some = of-gathered (λ t. (below 0 t).entries) (unit_first units s) (per_unit units) entry there in
           all 0 (unit_first units s + some.0) (part may.0 some.0) entry (may.1.sectors some.0 some.1) some.2;
       unchecked = λ len writable below all d l s h. all 0 (unit_first units s + h.0) h.2;
-      later = λ below these old new n chain a h. absurd h;
+      later = λ below certain old new n chain a before h. absurd h;
     }

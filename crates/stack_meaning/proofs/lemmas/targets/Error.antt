@@ -15,5 +15,5 @@ error-laws = record {
   sized = λ grammar images below all d l s b h. cc;
   shows = λ chains P below all d l s own bytes entry may there. absurd may;
   unchecked = λ len writable below all d l s h. other-fault h;
-  later = λ below these old new n chain a h. absurd h;
+  later = λ below certain old new n chain a before h. absurd h;
 }

@@ -10,7 +10,6 @@ use Rattle.dm_table.specs.declared.verity.Verity.{Verity}
 use Rattle.stack_rules.specs.Trees.{tree_of, block_sectors}
 use Rattle.stack_meaning.specs.Found.{Entry}
 use Rattle.stack_meaning.specs.Blocks.{verified_block}
-use Rattle.stack_meaning.specs.Leaves.{AreSteady}
 use Rattle.stack_meaning.specs.Outcomes.{Images, Outcome, then_outcome, part}
 use Rattle.stack_meaning.specs.Said.{Said}
 use Rattle.stack_meaning.specs.Spares.{BlockSources}
@@ -19,10 +18,10 @@ use Rattle.stack_meaning.proofs.lemmas.BlockSizeLemmas.{whole-sectors}
 use Rattle.stack_meaning.proofs.lemmas.MeaningLaws.{IsAlike, MeantLaws}
 use Rattle.stack_meaning.proofs.lemmas.CheckedLemmas.{then-parts}
 use Rattle.stack_meaning.proofs.lemmas.SizedLemmas.{block-length}
-use Rattle.stack_meaning.proofs.lemmas.LeafListLemmas.{AreSteady-kept, images-kept}
+use Rattle.stack_meaning.proofs.lemmas.LeafListLemmas.{images-kept}
 
 -- the three devices mean the same over both
-sources-alike : (images other : Images) (below : ℕ → ℕ → Said) → ((i t : ℕ) → IsAlike images other (below i t)) → sources_over below images ≡ sources_over below other
+pub sources-alike : (images other : Images) (below : ℕ → ℕ → Said) → ((i t : ℕ) → IsAlike images other (below i t)) → sources_over below images ≡ sources_over below other
 sources-alike images other below all =
     let over : ℕ → Images → ℕ → Outcome = λ i m t. (below i t).means m in
     let same : (i : ℕ) → over i images ≡ over i other = λ i. fun_ext (all i) in
@@ -52,10 +51,8 @@ verity-laws v = record {
       let same : here ≡ entry = ap (λ (k : ℕ). get_or (here ∷ []) k entry) (sym first) ∙ there.2 in
       subst P same (own v may.0 (s / block_sectors v) refl may.1);
   unchecked = λ len writable below all d l s h. let clash : true ≡ false = writable in cc;
-  later = λ below these old new n chain a h. record {
+  later = λ below certain old new n chain a before h. record {
     good = h.good;
-    exact = λ steady.
-        let before : AreSteady these old = AreSteady-kept new old (sym a.moved.fixed) steady in
-        ap (λ (m : Images). verified_block v (sources_over below m) chain.index) (images-kept a) ∙ h.exact before;
+    exact = λ sure. ap (λ (m : Images). verified_block v (sources_over below m) chain.index) (images-kept a) ∙ h.exact (before sure);
   };
 }

@@ -14,5 +14,5 @@ zero-laws = record {
   sized = λ grammar images below all d l s b h. let same : zero_sector ≡ b = cc in subst IsSector same zero-size;
   shows = λ chains P below all d l s own bytes entry may there. absurd (omega (arith, there.1));
   unchecked = λ len writable below all d l s h. h;
-  later = λ below these old new n chain a h. absurd h;
+  later = λ below certain old new n chain a before h. absurd h;
 }

@@ -10,7 +10,7 @@ use Rattle.stack_rules.specs.Records.{Configuration}
 use Rattle.stack_engine.specs.Bytes.{EachBytes}
 use Rattle.stack_meaning.specs.declared.fault.IoFault.{IoFault}
 use Rattle.rescue_map.specs.Aheads.{marks_ahead}
-use Rattle.rescue_map.specs.Maps.{marks}
+use Rattle.rescue_map.specs.Maps.{losts, marks}
 use Rattle.rescue_map.specs.declared.map.Run.{Run}
 use Rattle.stack_recovery.specs.declared.fault.RecoveryFault.{RecoveryFault}
 use Rattle.stack_recovery.specs.declared.fault.RecoveryFault.TheVariants.{NoMemory, Output}
@@ -25,13 +25,13 @@ use Rattle.stack_recovery.specs.Losses.{ListsLost, NotesLost, TalliesLost, loss_
 use Rattle.stack_recovery.specs.PassPieces.{IsNextPiece, pass_over}
 use Rattle.stack_recovery.specs.PieceLimits.{is_given_up, limit_after_bytes, limit_after_loss, limit_up_to}
 use Rattle.stack_recovery.specs.Pieces.{EndsAligned}
-use Rattle.stack_recovery.specs.Recoveries.{EndsEarly, Sides, scanned_by, sides}
+use Rattle.stack_recovery.specs.Recoveries.{EndsEarly, NotesMore, Sides, scanned_by, sides}
 use Rattle.stack_recovery.specs.Stretches.{BeginsOtherwise}
 use Rattle.stack_recovery.specs.Surveys.{AreMarked}
 use Rattle.stack_recovery.proofs.AheadLemmas.{ahead-few, ahead-inside, ahead-next, ahead-some, first-run, marked-next, notes-some}
 use Rattle.stack_recovery.proofs.HandingLemmas.{hands-failed, hands-in-piece, hands-over, hands-part}
 use Rattle.stack_recovery.proofs.LeafReadLemmas.{copies-again, copies-had}
-use Rattle.stack_recovery.proofs.PieceLemmas.{found-again, loss-fault, loss-found, may-lose, next-piece}
+use Rattle.stack_recovery.proofs.PieceLemmas.{found-again, loss-bad, loss-fault, loss-found, may-lose, next-piece}
 use Rattle.stack_recovery.proofs.UnderwayLemmas.{IsUnderway, closed-tally, counted-all, ends-in-piece, fails-output, few, note-room, runs-short, underway-again, underway-had, underway-kept, underway-lost, underway-none, underway-until}
 use Rattle.stack_recovery.proofs.lemmas.WritingLemmas.{err-from}
 use Rattle.stack_recovery.proofs.recovery.go_over_by.Goals as goal
@@ -45,7 +45,7 @@ pieces-init g c =
       so_far = record {
         calls = [];
         under = subst (λ (t : Tally). IsUnderway (is_some c.args.noted.now) before (scanned_by c.args.pass) old old 0 t c.args.noted.now c.of_run-piece_limit.result []) (sym c.new-tally.ensures)
-            (underway-none (is_some c.args.noted.now) before (scanned_by c.args.pass) old c.args.noted.now c.of_run-piece_limit.result c.requires.begun c.of_run-piece_limit.ensures.value);
+            (underway-none (is_some c.args.noted.now) before (scanned_by c.args.pass) old c.args.noted.now c.of_run-piece_limit.result c.requires.begun.0 c.requires.begun.1 c.of_run-piece_limit.ensures.value);
         did = refl;
       };
       called = no_piece;
@@ -111,7 +111,7 @@ pieces-preserved-then-run g c =
     record {
       so_far = record {
         calls = u.so_far.calls;
-        under = underway-kept _ _ _ _ _ _ _ _ _ _ u.so_far.under here.count (g.L.Listing.told c.close.new.listing) c.close.new.self c.note.new.noted c.of_run-piece_limit-then-run.result c.of_run-piece_limit-then-run.ensures.value c.next_stretch-run.ensures.some marked c.in_ok-note.ensures.ok c.close.ensures.text tally;
+        under = underway-kept _ _ _ _ _ _ _ _ _ _ u.so_far.under here.count (g.L.Listing.told c.close.new.listing) c.close.new.self c.note.new.noted c.of_run-piece_limit-then-run.result c.of_run-piece_limit-then-run.ensures.value c.next_stretch-run.ensures.some marked c.in_ok-note.ensures.ok c.in_ok-note.ensures.lost c.close.ensures.text tally;
         did = u.so_far.did;
       };
       called = sectors_had here.count u.called marked;
@@ -122,7 +122,7 @@ pieces-preserved-then-run g c =
       few = u.few;
       piece_limit = c.of_run-piece_limit-then-run.ensures.piece_limit;
       unfailed = u.unfailed;
-      noted = notes-some c.pieces.noted c.note.new.noted _ c.in_ok-note.ensures.ok ∙ u.noted;
+      noted = notes-some marks c.pieces.noted c.note.new.noted _ c.in_ok-note.ensures.ok ∙ u.noted;
     }
 
 pub overflow_add-at-else-run : goal.overflow_add-at-else-run
@@ -231,7 +231,7 @@ pieces-preserved-in-Ok g c =
         under = subst (λ (m : ℕ). IsUnderway (is_some c.args.noted.now) before (scanned_by c.args.pass) old new (c.pieces.at + m) c.close-in-Ok.new.self c.note-in-Ok.new.noted c.after_bytes-piece_limit.result (u.so_far.calls ++ Write c.pieces.at bytes true ∷ [])) (sym same)
             (underway-had _ _ _ _ _ _ _ _ _ _ u.so_far.under n bytes c.read_bytes.new.self k _ (g.O.BlockDev.state c.write.new.self) (g.L.Listing.told c.close-in-Ok.new.listing) c.close-in-Ok.new.self c.note-in-Ok.new.noted
             c.after_bytes-piece_limit.result next (c.after_bytes-piece_limit.ensures.value ∙ ap (λ (m : ℕ). limit_after_bytes c.pieces.piece_limit n (c.pieces.at + m)) same)
-            c.piece_at-piece.ensures.some piece marked (rw same at c.in_ok-note-in-Ok.ensures.ok) count c.in_ok-write-in-Ok.ensures.moved
+            c.piece_at-piece.ensures.some piece marked (rw same at c.in_ok-note-in-Ok.ensures.ok) (rw same at c.in_ok-note-in-Ok.ensures.lost) count c.in_ok-write-in-Ok.ensures.moved
             c.in_ok-write-in-Ok.ensures.image
             c.close-in-Ok.ensures.text tally);
         did = calls-last (DeviceDoes g.O.BlockDev.state g.O.BlockDev.does) c.args.out.now c.pieces.out c.write.new.self u.so_far.calls (Write c.pieces.at bytes true) u.so_far.did c.in_ok-write-in-Ok.ensures.call;
@@ -244,7 +244,7 @@ pieces-preserved-in-Ok g c =
       few = u.few;
       piece_limit = c.after_bytes-piece_limit.ensures.piece_limit;
       unfailed = c.in_ok-write-in-Ok.ensures.moved.failures ∙ u.unfailed;
-      noted = notes-some c.pieces.noted c.note-in-Ok.new.noted _ c.in_ok-note-in-Ok.ensures.ok ∙ u.noted;
+      noted = notes-some marks c.pieces.noted c.note-in-Ok.new.noted _ c.in_ok-note-in-Ok.ensures.ok ∙ u.noted;
     }
 
 pub lose_piece-requires : goal.lose_piece-requires
@@ -297,7 +297,8 @@ pieces-preserved-then-branch g c =
     (λ t. subst (λ (x : Configuration). AreAlike x c.args.pass.device.0 c.pieces.at n) c.config-else-run.ensures.value (c.piece_at-piece.ensures.alike t)) call.ensures.kind in
     let found = loss-found c.args.pass.no_scrape c.pieces.piece_limit c.pieces.at n alike c.in-Err.fault end c.piece_at-piece.ensures.apart in
     let answered = subst (λ (f : IoFault). EachBytes c.pieces.stack c.args.pass.device.0 c.pieces.at n (Err f) c.read_bytes.new.self) (sym (loss-fault alike c.in-Err.fault)) piece in
-    let noting = subst (NotesLost n c.pieces.noted c.lose_piece.new.noted) is call.ensures.noted in
+    let noting = subst (NotesLost n alike c.pieces.noted c.lose_piece.new.noted) is call.ensures.noted in
+    let bad = subst (λ (b : Bool). NotesMore losts c.pieces.noted c.lose_piece.new.noted (replicate n b)) (loss-bad alike c.in-Err.fault) noting.1 in
     let tally = subst (TalliesLost grown c.pieces.tally c.lose_piece.new.tally) is call.ensures.tallied in
     let told = subst (ListsLost g.L.Listing.told grown c.pieces.tally c.pieces.listing c.lose_piece.new.listing) is call.ensures.told in
     let old : Sides = sides c.args.stack.now (g.O.BlockDev.state c.args.out.now) (g.L.Listing.told c.args.listing.now) in
@@ -314,7 +315,7 @@ pieces-preserved-then-branch g c =
         under = subst (λ (m : ℕ). IsUnderway (is_some c.args.noted.now) before (scanned_by c.args.pass) old new (c.pieces.at + m) c.lose_piece.new.tally c.lose_piece.new.noted c.after_loss-piece_limit.result u.so_far.calls) (sym same)
             (underway-lost _ _ _ _ _ _ _ _ _ _ u.so_far.under n loss c.read_bytes.new.self (g.L.Listing.told c.lose_piece.new.listing) c.lose_piece.new.tally c.lose_piece.new.noted
             c.after_loss-piece_limit.result next found (c.after_loss-piece_limit.ensures.value ∙ ap (λ (m : ℕ). limit_after_loss c.args.pass.no_scrape c.pieces.piece_limit (c.pieces.at + m)) same)
-            c.piece_at-piece.ensures.some answered marked noting may told tally);
+            c.piece_at-piece.ensures.some answered marked noting.0 bad may told tally);
         did = u.so_far.did;
       };
       called = piece_failed (length (take (n * 512) c.pieces.room) / 512) c.from-count.result c.in-Err.fault u.called c.in-Err.ensures.given;
@@ -325,7 +326,7 @@ pieces-preserved-then-branch g c =
       few = u.few;
       piece_limit = c.after_loss-piece_limit.ensures.piece_limit;
       unfailed = u.unfailed;
-      noted = notes-some c.pieces.noted c.lose_piece.new.noted _ noting ∙ u.noted;
+      noted = notes-some marks c.pieces.noted c.lose_piece.new.noted _ noting.0 ∙ u.noted;
     }
 
 pub pieces-preserved : goal.pieces-preserved
@@ -351,7 +352,7 @@ pieces-preserved g c =
     let loss : Loss = loss_by alike c.in-Err.fault in
     let wanted : is_given_up alike c.args.pass.no_scrape c.pieces.piece_limit.doubt (c.pieces.at + n) ≡ false =
     ap (λ (m : ℕ). is_given_up alike c.args.pass.no_scrape c.pieces.piece_limit.doubt (c.pieces.at + m)) (sym c.from-count.ensures) ∙ sym c.is_given_up-given_up.ensures ∙ sym call.ensures.given_up ∙ isnt in
-    let noted = subst (NotesLost n c.pieces.noted c.lose_piece.new.noted) isnt call.ensures.noted in
+    let noted = subst (NotesLost n alike c.pieces.noted c.lose_piece.new.noted) isnt call.ensures.noted in
     let tally = subst (TalliesLost (run c.pieces.at n loss) c.pieces.tally c.lose_piece.new.tally) isnt call.ensures.tallied in
     let told = subst (ListsLost g.L.Listing.told (run c.pieces.at n loss) c.pieces.tally c.pieces.listing c.lose_piece.new.listing) isnt call.ensures.told in
     record {

@@ -87,7 +87,7 @@ pieces-preserved-then-run g c =
     let inside = ahead-inside before c.pieces.at c.sectors-sectors.result here.count here.had _ _ (c.requires.fits ∙ sym u.all) u.ahead first u.within in
     let marked : AreMarked before c.pieces.at here.count true = subst (AreMarked before c.pieces.at here.count) c.if-run.true (marked-next before c.pieces.at here.count here.count here.had _ (omega arith) (u.ahead ∙ first)) in
     record {
-      so_far = skimming-kept _ _ _ _ _ _ _ _ _ _ u.so_far here.count c.mark.new.map c.next_stretch-run.ensures.some marked c.in_ok-mark.ensures.ok;
+      so_far = skimming-kept _ _ _ _ _ _ _ _ _ _ u.so_far here.count c.mark.new.map c.next_stretch-run.ensures.some marked c.in_ok-mark.ensures.ok c.in_ok-mark.ensures.lost;
       called = sectors_had here.count u.called marked;
       ahead = ahead-next before c.pieces.at here.count _ _ _ (u.ahead ∙ sym c.next_stretch-run.ensures.same) c.pass.ensures.marks;
       config = u.config;
@@ -207,7 +207,7 @@ pieces-preserved-in-Ok g c =
     (subst (λ (x : Configuration). EndsAligned x c.args.pass.device.0 c.pieces.at (c.pieces.at + here.count) 128 n) (c.config-else-run.ensures.value ∙ u.config) c.piece_at-piece.ensures.ends) in
     record {
       so_far = subst (λ (m : ℕ). IsSkimming g.O.BlockDev.state (DeviceDoes g.O.BlockDev.state g.O.BlockDev.does) c.args.pass.skip before c.args.pass.device.0 (transfer c.args.stack.now c.args.out.now) (transfer c.read_bytes.new.self c.write.new.self) (c.pieces.at + m) c.mark-in-Ok.new.map least_skip) (sym same)
-          (skimming-had _ _ _ _ _ _ _ _ _ _ u.so_far n bytes c.read_bytes.new.self k _ c.write.new.self c.mark-in-Ok.new.map next piece marked (rw same at c.in_ok-mark-in-Ok.ensures.ok) count
+          (skimming-had _ _ _ _ _ _ _ _ _ _ u.so_far n bytes c.read_bytes.new.self k _ c.write.new.self c.mark-in-Ok.new.map next piece marked (rw same at c.in_ok-mark-in-Ok.ensures.ok) (rw same at c.in_ok-mark-in-Ok.ensures.lost) count
           c.in_ok-write-in-Ok.ensures.moved c.in_ok-write-in-Ok.ensures.image c.in_ok-write-in-Ok.ensures.call);
       called = copies-had g.D.BlockDev.state g.D.BlockDev.does (DeviceDoes g.O.BlockDev.state g.O.BlockDev.does) before c.args.pass.device.0 c.args.stack.now c.args.out.now c.pieces.at c.pieces.stack c.read_bytes.new.self c.pieces.out u.called (length (take (n * 512) c.pieces.room) / 512) c.from-count.result bytes c.write.new.self (number ∙ sym same) c.in-Ok.ensures.given c.in_ok-write-in-Ok.ensures.call;
       ahead = ahead-next before c.pieces.at c.from-count.result _ _ _ (u.ahead ∙ sym c.next_stretch-run.ensures.same) c.pass-in-Ok.ensures.marks;
@@ -283,7 +283,7 @@ pieces-preserved g c =
     let most : c.most_skip-most.result ≡ most_skip (size c.args.stack.now.config (mapped c.args.pass.device.0)) = c.most_skip-most.ensures.value ∙ ap most_skip u.all in
     let longer : c.longer_skip-skip.result ≡ longer_skip (most_skip (size c.args.stack.now.config (mapped c.args.pass.device.0))) c.pieces.skip = c.longer_skip-skip.ensures ∙ ap (λ (m : ℕ). longer_skip m c.pieces.skip) most in
     record {
-      so_far = rw (same, longer) (skimming-skipped _ _ _ _ _ _ _ _ _ _ u.so_far n skip c.in-Err.fault c.read_bytes.new.self c.mark-in-Err.new.map found piece marked (rw same at c.in_ok-mark-in-Err.ensures.ok));
+      so_far = rw (same, longer) (skimming-skipped _ _ _ _ _ _ _ _ _ _ u.so_far n skip c.in-Err.fault c.read_bytes.new.self c.mark-in-Err.new.map found piece marked (rw same at c.in_ok-mark-in-Err.ensures.ok) (rw same at c.in_ok-mark-in-Err.ensures.lost));
       called = piece_failed (length (take (n * 512) c.pieces.room) / 512) (c.from-count.result + skip) c.in-Err.fault u.called c.in-Err.ensures.given;
       ahead = ahead-next before c.pieces.at (c.from-count.result + skip) _ _ _ (u.ahead ∙ sym c.next_stretch-run.ensures.same) c.pass-in-Err.ensures.marks;
       config = c.in-Err.ensures.any.config ∙ u.config;

@@ -3,15 +3,13 @@ use Rattle.stack_engine.specs.Pieces.{PieceGives, ReadRestores}
 use Rattle.stack_engine.proofs.lemmas.RestoredLemmas.{reads-grow}
 use Rattle.stack_engine.proofs.LeafCallLemmas.{makes-as}
 use Rattle.stack_meaning.specs.declared.fault.IoFault.{IoFault}
-use Rattle.stack_meaning.specs.Leaves.{AreSteady}
 use Rattle.stack_rules.specs.Names.{mapped}
-use Rattle.stack_lines.specs.Touches.{leaves_of}
 use Rattle.stack_lines.specs.Budgets.{ReadsAtMost, budget}
 use Rattle.stack_meaning.specs.Meaning.{said_at}
 use Rattle.stack_meaning.specs.Reading.{MeetVerity, buffer_answer}
 use Rattle.stack_meaning.specs.Stops.{ReadStops}
 use Rattle.stack_engine.specs.Stacks.{StackRecord}
-use Rattle.stack_engine.specs.Pieces.{stack_with}
+use Rattle.stack_engine.specs.Pieces.{IsCertainPiece, stack_with}
 use Rattle.stack_engine.specs.Bytes.{AnyBytes, SteadyBytes}
 use Rattle.stack_engine.proofs.BytesLemmas.{each-bytes}
 use Rattle.stack_engine.proofs.CachedLemmas.{cached-checked}
@@ -36,7 +34,7 @@ returns-clause-steady g c =
     let n : ℕ = length c.args.out.now / 512 in
     let answer : Result (List ℕ) IoFault = buffer_answer c.read_device.result c.read_device.new.out in
     let after : StackRecord = stack_with c.self.inside.config (map g.D.BlockDev.state c.read_device.new.backing.devices.items) c.read_device.new.backing.cache.blocks c.read_device.new.backing.restored in
-    subst (λ (w : StackRecord). AreSteady (leaves_of w.config (mapped c.args.d.0)) w.leaves → SteadyBytes w c.args.d.0 c.args.first n answer after) c.self.view_is
+    subst (λ (w : StackRecord). IsCertainPiece w c.args.d.0 c.args.first n → SteadyBytes w c.args.d.0 c.args.first n answer after) c.self.view_is
     (each-bytes c.self.inside.config c.args.d.0 c.args.first n answer c.new-dropped.ensures.items c.read_device.ensures.reads (buffer-touched c.read_device.result c.read_device.new.out c.read_device.ensures.step.touches) {before = c.self.inside.backing.cache.blocks} {after = c.read_device.new.backing.cache.blocks} c.read_device.ensures.step.cached.capacity).steady
 
 pub returns-clause-stops : goal.returns-clause-stops

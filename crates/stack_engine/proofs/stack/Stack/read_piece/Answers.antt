@@ -16,7 +16,7 @@ use Rattle.stack_meaning.specs.Reading.{Gets, MeetVerity, IsPlain, buffer_answer
 use Rattle.stack_meaning.specs.Stops.{ReadStops}
 use Rattle.stack_lines.specs.Touches.{NamesOneOf, failures_behind, leaves_of}
 use Rattle.stack_lines.specs.Budgets.{ReadsAtMost, budget}
-use Rattle.stack_lines.proofs.lemmas.AskLemmas.{EndAlike, asks-as}
+use Rattle.stack_lines.proofs.lemmas.AskLemmas.{EndAlike, asks-as, asks-less}
 use Rattle.stack_engine.specs.Stacks.{StackRecord, AnswerRecord}
 use Rattle.stack_engine.specs.Pieces.{EachPiece, stack_with}
 use Rattle.stack_engine.proofs.CachedLemmas.{cached-checked}
@@ -79,7 +79,8 @@ piece g c =
       | in-Ok-read_device w ↦ subst Alike (sym w.result-is) (λ failures. sym (ap (λ (r : Result Unit IoFault). failures_behind r failures) w.in-Ok-read_device.is))
     ] in
     subst (λ (w : StackRecord). EachPiece w c.args.d.0 c.args.first c.args.n c.match-read_device.result (stack_with config new c.read_device.new.backing.cache.blocks c.read_device.new.backing.restored)) c.self.view_is
-    (each-piece config c.args.d.0 c.args.first c.args.n c.match-read_device.result got (asks-as c.match-read_device.result fault alike c.read_device.ensures.step.touches) {before = c.self.inside.backing.cache.blocks} {after = c.read_device.new.backing.cache.blocks} c.read_device.ensures.step.cached.capacity)
+    (each-piece config c.args.d.0 c.args.first c.args.n c.match-read_device.result got
+    (asks-less (λ none met. none (subst (λ (k : ℕ). MeetVerity (said_at config (mapped c.args.d.0)) c.args.first k) (count g c) met)) (asks-as c.match-read_device.result fault alike c.read_device.ensures.step.touches)) {before = c.self.inside.backing.cache.blocks} {after = c.read_device.new.backing.cache.blocks} c.read_device.ensures.step.cached.capacity)
 
 pub invariant_of-self : goal.invariant_of-self
 invariant_of-self g c = record { sound = piece-sound c.self.inside.config c.self.invariant.sound (reads g c).reads.got.moved; cached = c.read_device.ensures.step.cached.sound }

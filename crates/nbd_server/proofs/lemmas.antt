@@ -1,0 +1,2 @@
+-- What callers may cite.
+pub mod ServiceReportLemmas
