@@ -2,7 +2,8 @@
 """Counts the failing reads of `copy --map` and of GNU ddrescue on five disks with unreadable sectors.
 
 failing_reads.py PROGRAM: for each disk a line without and one with `--no-scrape` (`-n`): how many reads failed before the last
-64 KiB were read, and in all, of PROGRAM and of ddrescue (`-b 512 -c 128`), and how many sectors each lacks. A line that ends in
+64 KiB were read, before the last readable sector was, and in all, of PROGRAM and of ddrescue (`-b 512 -c 128`), and how many sectors
+each lacks, and how many reads fail as each goes on twice by its own map. A line that ends in
 `more` has more than 1.1 times ddrescue's failing reads, or lacks a sector that ddrescue has. Without `--no-scrape` that is a
 failure. Then one of the two goes on by the map and the copy that
 the other one left with `--no-scrape`, and by a map of the other's whole copy: it must lack the unreadable sectors alone. It needs cc and
@@ -76,18 +77,21 @@ def disks():
 
 
 def reads_of(room, command):
-    """The failing reads before the last 64 KiB were read, and in all."""
+    """The failing reads before the last 64 KiB were read, before the last sector was that could be, and in all."""
     notes = f"{room}/notes"
     environment = {**os.environ, "LD_PRELOAD": f"{room}/reads.so", "BAD": f"{room}/bad", "NOTES": notes}
     subprocess.run(command, cwd=room, env=environment, stdout=subprocess.DEVNULL, stderr=subprocess.DEVNULL)
-    before, failed, reached = 0, 0, False
+    before, last, failed, reached, seen = 0, 0, 0, False, set()
     with open(notes) as it:
         for line in it:
             at, count, ok = map(int, line.split())
             reached |= ok and at + count > SECTORS * SECTOR - 65536
             failed += not ok
             before += not ok and not reached
-    return before, failed
+            sectors = set(range(at // SECTOR, (at + count) // SECTOR)) if ok else set()
+            last = failed if sectors - seen else last
+            seen |= sectors
+    return before, last, failed
 
 
 def lost(room, path):
@@ -119,11 +123,13 @@ def compare(room, program, name, bad, scrapes):
     ours = reads_of(room, commands(program, "ours", "map", scrapes)[0])
     theirs = reads_of(room, commands(program, "theirs", "log", scrapes)[1])
     mine, others = lost(room, "ours"), lost(room, "theirs")
+    again = [sum(reads_of(room, commands(program, copy, log, scrapes)[which])[-1] for _ in range(2))
+             for which, copy, log in ((0, "ours", "map"), (1, "theirs", "log"))]
     lacks = not set(mine) <= set(others)
-    more = lacks or any(a > RATIO * b for a, b in zip(ours, theirs))
-    print(f"{name}{'' if scrapes else ', --no-scrape'}: {ours[0]} of {ours[1]} failed, ddrescue {theirs[0]} of {theirs[1]};"
-          f" lacks {len(mine)}, {len(others)}" + (" more" if more else ""))
-    return scrapes and more
+    more = lacks or again[0] > again[1] or any(a > RATIO * b for a, b in zip(ours, theirs))
+    print(f"{name}{'' if scrapes else ', --no-scrape'}: {ours[0]}, {ours[1]}, {ours[2]} failed, ddrescue {theirs[0]}, {theirs[1]}, {theirs[2]};"
+          f" lacks {len(mine)}, {len(others)}; again {again[0]}, {again[1]}" + (" more" if more else ""))
+    return (scrapes or again[0] > again[1]) and more
 
 
 def hand_over(room, program, name, bad, scrapes):
@@ -132,7 +138,7 @@ def hand_over(room, program, name, bad, scrapes):
     failed = False
     for first, copy, log in ((0, "ours", "map"), (1, "theirs", "log")):
         reads_of(room, commands(program, copy, log, scrapes)[first])
-        second = reads_of(room, commands(program, copy, log, True)[1 - first])[1]
+        second = reads_of(room, commands(program, copy, log, True)[1 - first])[-1]
         lacks = lost(room, copy)
         failed |= lacks != bad
         print(f"{name}, {('copy', 'ddrescue')[1 - first]} after {('copy', 'ddrescue')[first]}"

@@ -1,13 +1,14 @@
 #!/usr/bin/env python3
 """One READ of 4 MiB of a verity volume whose leaves take 20 ms for each read, beside `dd bs=1M` of the same bytes of its DATA.
 
-far_leaves.py [--rounds ROUNDS] [--delay MS] [--read-ahead KIB].. PROGRAM: the leaf is a file of an nbdfuse mount of nbdkit with
+far_leaves.py [--rounds ROUNDS] [--delay MS] [--read-ahead KIB].. [--loop] PROGRAM: the leaf is a file of an nbdfuse mount of nbdkit with
 its filter `delay`. Once only DATA is such a leaf, once HASH too, by a second mount. Before each measurement of ROUNDS (7) the
 leaves' pages are dropped and a service is started; the clock runs from the request to the last byte of its reply. A row has the
 median times, the median of the rounds' ratios (more than 1: the service is slower) with the least and the greatest, and the most
-memory that a service had. With --read-ahead the rows are also those of mounts with that read_ahead_kb, which root may set. The
-status is 1 if a row of the mount as it is has a median above 1.3, or any service had more than 8 MiB. Needs nbdkit, nbdfuse,
-fusermount3. Not a part of the gate.
+memory that a service had. With --read-ahead the rows are also those of mounts with that read_ahead_kb, with --loop also those of loop
+devices over the mounts, which stand for far block devices: these pass on reads as long as they are; both need root. The status
+is 1 if a row of the mount as it is, or of DATA alone on a loop device, has a median above 1.3, or any service had more than
+8 MiB. Needs nbdkit, nbdfuse, fusermount3, with --loop losetup and blockdev. Not a part of the gate.
 """
 import argparse
 import os
@@ -23,9 +24,9 @@ OPTION = b"IHAVEOPT"
 
 
 class Far:
-    """A file in a mount of its own, each read of which takes a delay."""
+    """A file in a mount of its own, or a loop device over it, each read of which takes a delay."""
 
-    def __init__(self, name, delay, read_ahead):
+    def __init__(self, name, delay, read_ahead, loop):
         os.makedirs(f"far-{name}", exist_ok=True)
         self.folder, self.path = f"far-{name}", f"far-{name}/nbd"
         server = ["nbdkit", "-s", "-r", "--filter=delay", "file", os.path.abspath(name), f"rdelay={delay}ms"]
@@ -38,13 +39,21 @@ class Far:
             device = os.stat(self.path).st_dev
             with open(f"/sys/class/bdi/{os.major(device)}:{os.minor(device)}/read_ahead_kb", "w") as file:
                 file.write(str(read_ahead))
+        if loop:
+            words = ["losetup", "--find", "--show", "--read-only", "--direct-io=on", self.path]
+            self.path = subprocess.run(words, check=True, capture_output=True, text=True).stdout.strip()
+        self.loop = loop
 
     def forget(self):
         """Drops the kernel's pages of the file."""
+        if self.loop:
+            subprocess.run(["blockdev", "--flushbufs", self.path], check=True)
         with open(self.path, "rb") as file:
             os.posix_fadvise(file.fileno(), 0, 0, os.POSIX_FADV_DONTNEED)
 
     def close(self):
+        if self.loop:
+            subprocess.run(["losetup", "--detach", self.path], check=True)
         subprocess.run(["fusermount3", "-u", self.folder], check=True)
         self.child.wait()
 
@@ -158,20 +167,23 @@ def main():
     words.add_argument("--rounds", type=int, default=7)
     words.add_argument("--delay", type=int, default=20)
     words.add_argument("--read-ahead", type=int, action="append", default=[])
+    words.add_argument("--loop", action="store_true")
     words.add_argument("program")
     said = words.parse_args()
     program, bad = os.path.realpath(said.program), False
     with tempfile.TemporaryDirectory(dir="/dev/shm") as room:
         os.chdir(room)
         make(program)
-        for read_ahead in (None, *said.read_ahead):
-            data, tree = (Far(it, said.delay, read_ahead) for it in ("data", "hash"))
-            kind = f"read_ahead_kb {read_ahead}" if read_ahead else "read-ahead as mounted"
+        kinds = [(None, False), *((it, False) for it in said.read_ahead), *[(None, True)] * said.loop]
+        for read_ahead, loop in kinds:
+            data, tree = (Far(it, said.delay, read_ahead, loop) for it in ("data", "hash"))
+            kind = "loop device" if loop else f"read_ahead_kb {read_ahead}" if read_ahead else "read-ahead as mounted"
             try:
                 for far, leaves in (("DATA far", [data, "hash"]), ("DATA and HASH far", [data, tree])):
                     for structured in (False, True):
                         ratio, memory = row(program, said.rounds, f"{kind}, {far}", leaves, structured)
-                        bad |= memory > MEMORY or (not read_ahead and ratio > GOAL)
+                        wanted = not read_ahead and not (loop and tree in leaves)
+                        bad |= memory > MEMORY or (wanted and ratio > GOAL)
             finally:
                 data.close()
                 tree.close()

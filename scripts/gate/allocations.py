@@ -42,7 +42,7 @@ PLACES = {
     "runs": (9, VALUES),
     "scan_commands": (27, VALUES),
     "stack_commands": (15, VALUES),
-    "stack_lines": (2, CACHE),
+    "stack_lines": (3, CACHE),
     "update_commands": (4, VALUES),
     "verified_cache": (5, CACHE),
     "verity_commands": (9, VALUES),
@@ -51,6 +51,7 @@ PLACES = {
 # Of functions that are trusted: their crate and name, how many places each has, and why.
 TRUSTED = {
     ("dmstack", "main"): (1, "the buffer of standard output; the program's end has no clause on its cause"),
+    ("dmstack", "new"): (1, "the buffer of standard error, likewise"),
     ("dmstack", "words_of"): (1, "the program's own arguments, likewise"),
     ("image_files", "first_bytes"): (1, "`std` reads to the end of a stream into a vector of its own growth; the system may answer the same fault"),
     ("image_files", "resolve"): (2, "a path grows within `std`; the system may answer the same fault"),
@@ -66,6 +67,8 @@ OWN = {
     ("rescue_map", "keep_lost"): (1, "`Map::push`"),
     ("rescue_map", "move_marks"): (1, "`Map::push`"),
     ("rescue_map", "settled"): (1, "`Map::push`"),
+    ("rescue_map", "stepped"): (1, "`Map::push`"),
+    ("rescue_map", "untaken"): (1, "`Map::push`"),
     ("stack_rules", "new"): (1, "`Table::try_clone`"),
     ("table_text", "read_known"): (1, "`Options::push`"),
     ("table_text", "read_bases"): (1, "`Bases::push`"),

@@ -319,7 +319,7 @@ check 'nothing is left beside the links' test "$(echo folder/* linked* hanging* 
 # left does no harm.
 cc -shared -fPIC -O2 -o "$room/fail.so" "$top/scripts/gate/fail_calls.c" -ldl
 mkdir killed
-printf '# dmstack scan\n0 ?\n0 2048 +\n2048 2048 ?\n' > skimmed
+printf '# dmstack scan\n0 ?\n0 2048 +\n2048 2048 *\n' > skimmed
 calls=''
 for number in 1 2 3 4 5 6 7 8 9 10 11 12 13 14 15; do
     rm -rf killed/* met

@@ -14,8 +14,9 @@ from random_sessions import Sessions
 from stack import SECTOR, Stack
 from tables import PREFIX, SPACE, TextFault, is_mapped_name, read_stack
 
-# Leaves are whole files, so no map is bound to one.
-FEATURES = features_without(["bound-maps"])
+# Leaves are whole files, so no map is bound to one. Linux loads a line with a key's description only if its keyring has the key, and
+# verifies the signature.
+FEATURES = features_without(["bound-maps", "signature_key"])
 # More sectors of a device aren't read.
 MOST_READ = 4096
 LARGEST_LEAF = 2600

@@ -82,6 +82,9 @@ def each_of_all(data, bindings):
         if shutil.which("qemu-img"):
             done = run("qemu-img", "convert", "-f", "raw", "-O", "raw", f"nbd:unix:{socket}:exportname=v", "converted")
             say("all: qemu-img", done.returncode == 0 and open("converted", "rb").read() == data, done.stderr.decode())
+            # it sends the empty name, which means the first device
+            done = run("qemu-img", "info", "--output=json", f"nbd:unix:{socket}")
+            say("all: qemu-img without a name", json.loads(done.stdout or "{}").get("virtual-size") == len(data), done.stderr.decode())
 
 
 def holes_are_kept():

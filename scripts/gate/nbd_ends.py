@@ -11,7 +11,7 @@ import time
 from nbd_messages import (
     ACK, CACHE, DF, DISC, EXPORT_NAME, Export, FLUSH, FUA, GO, GREETING, INFO, LIST, LIST_META, READ, REQ_ONE, SECTOR, SERVER, SET_META,
     STACK, STATUS, STRUCTURED, TRIM, WRITE, ZEROES, asks, begun, begun_in_chunks, context, exports, faults_line, flags, option,
-    option_reply, queries, reply, request, requests_of, without_log,
+    option_reply, queries, reply, request, requests_of, taken, without_log,
 )
 from sentences import without_sentence
 
@@ -144,13 +144,13 @@ def gone_within(runner):
     second[1:5] = b"next"
     for kind, (asked, answer) in replies.items():
         given, whole = sent + asked + request(WRITE, 1, 4, data=b"next"), told + answer
-        for taken in range(len(whole) - len(answer), len(whole) + 1):
-            gone_behind(runner, f"gone within {kind}", given, whole + reply(), taken, (bytes(first), bytes(second)), kind == "ERROR_OFFSET")
-        for taken in range(len(whole) - len(answer) - len(reply()), len(whole) + len(reply())):
-            cut_behind(runner, f"cut within {kind}", given, whole + reply(), taken, bytes(second if taken >= len(whole) else first))
+        for count in range(len(whole) - len(answer), len(whole) + 1):
+            gone_behind(runner, f"gone within {kind}", given, whole + reply(), count, (bytes(first), bytes(second)), kind == "ERROR_OFFSET")
+        for count in range(len(whole) - len(answer) - len(reply()), len(whole) + len(reply())):
+            cut_behind(runner, f"cut within {kind}", given, whole + reply(), count, bytes(second if count >= len(whole) else first))
 
 
-def gone_behind(runner, label, sent, whole, taken, images, faulty):
+def gone_behind(runner, label, sent, whole, count, images, faulty):
     """The client takes so many bytes and closes both its ends; the service may have put more into the pipe by then. If it ends well,
     it tells whether one of the requests had a fault."""
     open("F", "wb").write(exports()["file"].content)
@@ -160,24 +160,22 @@ def gone_behind(runner, label, sent, whole, taken, images, faulty):
     with served.stderr:
         with served.stdout, served.stdin:
             served.stdin.write(sent)
-            found = b""
-            while len(found) < taken and (more := served.stdout.read(taken - len(found))):
-                found += more
+            found = taken(served.stdout, count)
         said = served.stderr.read()
     status = served.wait(60)
     limit.cancel()
     told = faults_line(1, len(requests_of(sent))) if status == 3 else b""
-    good = found == whole[:taken] and status in (3 if faulty else 0, 1) and without_sentence(b"", without_log(said), status) == told
-    runner.count(f"{label} after {taken} bytes", good and open("F", "rb").read() in images[status != 1 :], f"status {status}, {said[:200]!r}")
+    good = found == whole[:count] and status in (3 if faulty else 0, 1) and without_sentence(b"", without_log(said), status) == told
+    runner.count(f"{label} after {count} bytes", good and open("F", "rb").read() in images[status != 1 :], f"status {status}, {said[:200]!r}")
 
 
-def cut_behind(runner, label, sent, whole, taken, after):
+def cut_behind(runner, label, sent, whole, count, after):
     """No more than so many bytes can be written: the output is a file that may have no more after the offset at which it begins."""
     start = 8 * SECTOR
 
     def limited():
         signal.signal(signal.SIGXFSZ, signal.SIG_IGN)
-        resource.setrlimit(resource.RLIMIT_FSIZE, (start + taken, start + taken))
+        resource.setrlimit(resource.RLIMIT_FSIZE, (start + count, start + count))
 
     open("F", "wb").write(exports()["file"].content)
     with open("out", "wb+") as out:
@@ -185,5 +183,5 @@ def cut_behind(runner, label, sent, whole, taken, after):
         done = subprocess.run([runner.program, "nbd", "patched", "p", "F=rw:F"], input=sent, stdout=out, stderr=subprocess.PIPE, timeout=60, preexec_fn=limited)
         out.seek(start)
         found = out.read()
-    good = found == whole[:taken] and done.returncode == 1 and not without_log(done.stderr)
-    runner.count(f"{label} after {taken} bytes", good and open("F", "rb").read() == after, f"status {done.returncode}, {len(found)} bytes")
+    good = found == whole[:count] and done.returncode == 1 and not without_log(done.stderr)
+    runner.count(f"{label} after {count} bytes", good and open("F", "rb").read() == after, f"status {done.returncode}, {len(found)} bytes")

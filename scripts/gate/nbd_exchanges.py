@@ -20,14 +20,14 @@ from nbd_failures import failures, forced, refusals  # noqa: E402
 from nbd_handshakes import contexts, handshakes, many_exports  # noqa: E402
 from nbd_memory import memory  # noqa: E402
 from nbd_messages import Runner  # noqa: E402
-from nbd_reads import chunks, gone, transmissions  # noqa: E402
+from nbd_reads import caches, chunks, gone, kept_blocks, transmissions  # noqa: E402
 from nbd_statuses import ignored_blocks, statuses  # noqa: E402
-from nbd_writes import crypt, full, long_runs, writes, zeroes  # noqa: E402
+from nbd_writes import crypt, fast_zeroes, full, long_runs, writes, zeroes  # noqa: E402
 
 
 # The longest first.
 PARTS = [failures, gone_within, ignored_blocks, cuts, chunks, zeroes, contexts, ahead, handshakes, forced]
-PARTS += [transmissions, many_exports, statuses, writes, gone, long_runs, memory, crypt, full, refusals]
+PARTS += [transmissions, many_exports, statuses, writes, gone, kept_blocks, caches, long_runs, fast_zeroes, memory, crypt, full, refusals]
 
 
 def counts_of(program, part):

@@ -3,10 +3,15 @@ import os
 import subprocess
 
 from nbd_messages import (
-    DF, EIO, ENOMEM, FLUSH, FUA, GREETING, READ, SECTOR, STACK, STATUS, WRITE, ZEROES, begun, begun_in_chunks, counts_of, exports,
+    CACHE, DF, EIO, ENOMEM, FLUSH, FUA, GREETING, READ, SECTOR, STACK, STATUS, WRITE, ZEROES, begun, begun_in_chunks, counts_of, exports,
     failed, failed_at, faults_line, flags, log_of, reason_of, reply, request, start_of, without_log,
 )
 from sentences import without_sentence
+
+
+def is_in_one_sector(offset, length):
+    """Whether bytes lie in one sector: if they can't be read once, they aren't read again."""
+    return offset // SECTOR == (offset + length - 1) // SECTOR
 
 
 def talks(chunked, failing=None, error=EIO):
@@ -14,6 +19,7 @@ def talks(chunked, failing=None, error=EIO):
     failed stays failed, so later flushes fail too."""
     e = exports()["file"]
     asked = [("write", 509, b"across"), ("flush",), ("read", 508, 8), ("write", 1024, bytes(range(256)) * 4), ("flush",), ("zeroes", 1536, 512), ("read", 0, 4096)]
+    asked += [("cache", 5, 700), ("cache", 520, 9)]
     if chunked:
         asked += [("whole", 5, 700), ("sector", 520, 9), ("status", 5, 4000)]
     sent, wanted = begun_in_chunks(e, True) if chunked else begun(e)
@@ -28,34 +34,37 @@ def talks(chunked, failing=None, error=EIO):
             sent += request(FLUSH)
             fails = number == failing or error == EIO and failing is not None and asked[failing][0] == "flush" and failing < number
             answer = reply(error) if fails else reply()
+        elif kind == "cache":
+            sent += request(CACHE, *rest)
+            answer = reply(error) if number == failing and (error == ENOMEM or is_in_one_sector(*rest)) else e.cache(*rest)
         elif kind == "status":
             sent += request(STATUS, *rest)
             answer = failed(error, kind=b"Device") if number == failing else e.status(*rest)
         elif kind == "whole":
             sent += request(READ, *rest, bits=DF)
-            answer = failed(error, kind=b"Device") if number == failing else e.chunks(*rest, df=True)
+            # a piece that failed once is read again
+            answer = failed(error, kind=b"Device") if number == failing and error == ENOMEM else e.chunks(*rest, df=True)
         elif kind == "sector":
             sent += request(READ, *rest)
             answer = failed_at(error, rest[0], kind=b"Device") if number == failing else e.chunks(*rest)
         elif chunked:
-            # a piece that failed once is read again, in smaller pieces
+            # a piece that failed once is sent in smaller pieces
             sent += request(READ, *rest)
             answer = e.chunks(*rest, again=number == failing)
         else:
             sent += request(READ, *rest)
-            answer = reply(error) if number == failing else e.read(*rest)
+            answer = reply(error) if number == failing and error == ENOMEM else e.read(*rest)
         wanted += answer
     return sent, wanted, bytes(e.content), asked
 
 
-def lost_by(asked, chunked, failing):
+def lost_by(asked, failing):
     """What may be reported where the request of that number fails: the sector of a request, and None for each flush. A piece of a READ
-    in parts is read again, and goes well, as the sectors of another READ do: it has the piece's first sector. Of a write a sector is
-    lost in which it begins or ends, or the piece."""
+    of several sectors is read again, and goes well. Of a write a sector is lost in which it begins or ends, or the piece."""
     kind, *rest = asked[failing]
     if kind == "flush":
         return [[None for later, *_ in asked[failing:] if later == "flush"]]
-    if kind == "read" and chunked:
+    if kind in ("read", "whole") or kind == "cache" and not is_in_one_sector(*rest):
         return [[]]
     first = rest[0] // SECTOR
     ends = [(rest[0] + len(rest[1])) // SECTOR] if kind == "write" and (rest[0] + len(rest[1])) % SECTOR else []
@@ -118,7 +127,7 @@ def device_ends(asked, chunked, synced):
     e, ends = exports()["file"], []
     for failing in [k for k, it in enumerate(asked) if (it[0] == "flush") == synced] + [None] * synced:
         _, told, left, _ = talks(chunked, failing)
-        for lost in [[]] if failing is None else lost_by(asked, chunked, failing):
+        for lost in [[]] if failing is None else lost_by(asked, failing):
             line = b"fault 3 Device 3\n" if synced else faults_line(1, len(asked)) if lost else b""
             counts = counts_of(talks(chunked)[0], len(e.content), True)
             log = start_of([e]) + log_of("file", counts, lost, b"Device 3", reason_of(talks(chunked)[0]))

@@ -77,8 +77,11 @@ def many_exports(runner):
         for number in (INFO, GO):
             opened = option(number, asks(name.encode(), 3)) + (asked if number == GO else option(LIST))
             runner.run(f"{number} of {name} among all", None, flags(3) + opened, GREETING + e.told(number, True) + (told if number == GO else listed))
-    # the empty name is that of an only export
-    for name in (b"", b"lo", b"loww", b"low\0", b"File", b"R", b"n" * 4097):
+    # the empty name is that of the first export
+    first = next(iter(found.values()))
+    for number in (INFO, GO):
+        runner.run(f"{number} of the first among all", None, flags(3) + option(number, asks(b"", 1)) + (option(LIST) if number == INFO else b""), GREETING + first.told(number, named=True) + (listed if number == INFO else b""))
+    for name in (b"lo", b"loww", b"low\0", b"File", b"R", b"n" * 4097):
         for number in (INFO, GO):
             runner.run(f"{number} of {name[:8]} among all", None, flags(3) + option(number, asks(name)) + option(LIST), GREETING + option_reply(number, UNKNOWN) + listed)
         runner.run(f"EXPORT_NAME of {name[:8]} among all", None, flags(3) + option(EXPORT_NAME, name), GREETING, status=4)
@@ -104,13 +107,15 @@ def contexts(runner):
         for data in (b"", whole):
             runner.run(f"{number} without chunks", "sparse", flags(3) + option(number, data) + option(ABORT), GREETING + option_reply(number, INVALID) + option_reply(ABORT, ACK))
         rows = [((), False), ((b"base:allocation",), True), ((b"base:",), False), ((b"base:allocatio",), False), ((b"base:allocation2",), False)]
-        rows += [((b"qemu:dirty-bitmap:x", b"base:allocation"), True), ((b"base:allocation", b"other"), True), ((b"",), False), ((b"base",), False), ((b"Base:allocation",), False)]
-        rows += [((b"base:allocation",) * 3, True), ((b"x",) * 40, False), ((b"x",) * 40 + (b"base:allocation",), True)]
+        rows += [((b"qemu:dirty-bitmap:x", b"base:allocation"), True), ((b"base:allocation", b"other:"), True), ((b"Base:allocation",), False)]
+        rows += [((b"base:allocation",) * 3, True), ((b"x:",) * 40, False), ((b"x:",) * 40 + (b"base:allocation",), True)]
+        # queries without a namespace
+        rows += [(wanted, None) for wanted in ((b"",), (b"base",), (b":",), (b":allocation",), (b"base:allocation", b"x"), (b"x",) * 40 + (b"base:allocation",))]
         for wanted, named in rows:
-            if number == LIST_META:
+            if number == LIST_META and named is not None:
                 named = named or wanted in ((), (b"base:",))
             for name in (b"sparse", b""):
-                answer = (context(number, 0 if number == LIST_META else 1) if named else b"") + option_reply(number, ACK)
+                answer = option_reply(number, INVALID) if named is None else (context(number, 0 if number == LIST_META else 1) if named else b"") + option_reply(number, ACK)
                 chosen = named and number == SET_META
                 after = e.status(0, 5632) if chosen else failed(EINVAL)
                 runner.run(f"{number} of {wanted[:2]}", "sparse", agreed + option(number, queries(name, *wanted)) + opened + request(STATUS, 0, 5632), told + answer + begins + after)
@@ -130,6 +135,7 @@ def contexts(runner):
         (option(SET_META, queries(b"sparse")), option_reply(SET_META, ACK)),
         (option(SET_META, queries(b"sparse", b"base:")), option_reply(SET_META, ACK)),
         (option(SET_META, b"x"), option_reply(SET_META, INVALID)),
+        (option(SET_META, queries(b"sparse", b"base:allocation", b"x")), option_reply(SET_META, INVALID)),
         (option(SET_META, queries(b"none", b"base:allocation")), option_reply(SET_META, UNKNOWN)),
         (option(SET_META, bytes(65537)), option_reply(SET_META, TOO_BIG)),
     ]

@@ -6,14 +6,14 @@ import threading
 
 from nbd_messages import (
     ACK, DF, DISC, ENOMEM, Export, GO, GREETING, INFO, LIST, MOST, READ, SECTOR, SERVER, SET_META, STATUS, STRUCTURED, WRITE, asks, begun,
-    begun_in_chunks, context, failed, flags, option, option_reply, queries, request,
+    begun_in_chunks, context, failed, flags, option, option_reply, queries, request, taken,
 )
 
 MIB = 1 << 20
-# The address space that a session may take. The least with which the program serves these sessions, compiled by `./dmstack`, is 5.2 MiB:
-# 3.9 MiB with which `dmstack version` runs, 0.25 MiB for the buffer of the pieces of a READ, and 1 MiB for the bytes of a WRITE, or of
+# The address space that a session may take. The least with which the program serves these sessions, compiled by `./dmstack`, is 6.4 MiB:
+# 4.3 MiB with which `dmstack version` runs, 1 MiB for the buffer of the pieces of a READ, and 1 MiB for the bytes of a WRITE, or of
 # a READ that isn't answered in chunks. The limit is the next multiple of 16 MiB, since other compilers and C libraries take other
-# sizes. So a session that takes 11 MiB more isn't served.
+# sizes. So a session that takes 10 MiB more isn't served.
 LIMIT = 16 * MIB
 SIZE = 2 * MIB
 KEY = "".join(f"{k:02x}" for k in range(64))
@@ -70,9 +70,7 @@ def taken_by(runner, sent, wanted):
     limit.start()
     writer.start()
     with served.stdout:
-        found = b""
-        while len(found) < len(wanted) and (more := served.stdout.read(len(wanted) - len(found))):
-            found += more
+        found = taken(served.stdout, len(wanted))
         writer.join(60)
         with open(f"/proc/{served.pid}/status", encoding="ascii") as it:
             peak = re.search(r"^VmPeak:\s+(\d+) kB$", it.read(), re.M)

@@ -23,9 +23,9 @@ TEXTS = {
     ENOTSUP: b"zeros take as long to write as other bytes", b"ErrorTarget": b"the sector is on an error target",
     b"Mismatch": b"a block fails verification", b"Device": b"a backing device failed",
 }
-# the sectors in bytes that a piece of a READ touches at most that is answered piece by piece, and where what a BLOCK_STATUS reads
-# ends; the blocks of zeros at the ends of a piece that are holes; where what a BLOCK_STATUS reads ends, if it is of one extent
-PIECE, BLOCK, PART, FEW = 256 << 10, 4096, 64 << 10, 8 << 9
+# the sectors in bytes that a piece of a READ touches at most that is answered piece by piece; the blocks of zeros at the ends of a
+# piece that are holes; where what a BLOCK_STATUS reads ends, and where if it is of one extent; a piece that is read again
+PIECE, BLOCK, LOOK, PART, FEW = 1 << 20, 4096, 256 << 10, 64 << 10, 8 << 9
 GREETING = MAGIC + OPTION_MAGIC + struct.pack(">H", 3)
 
 
@@ -118,7 +118,7 @@ class Export:
 
     def fails(self, offset, length):
         first, last = offset // 512, (offset + length + 511) // 512
-        return any(first < high and low < last for low, high in self.lost)
+        return length > 0 and any(first < high and low < last for low, high in self.lost)
 
     def read(self, offset, length):
         if length > MOST or offset + length > len(self.content):
@@ -208,9 +208,9 @@ class Export:
         return extents
 
     def extents_read(self, offset, length, one):
-        """Of bytes that are read: those of one piece at most, which end before other lines. All are data where one can't be read."""
-        piece = PART if one else PIECE
-        end, sector = min(offset + length, offset - offset % piece + piece), offset // SECTOR
+        """Of bytes that are read: those of one look at most, which end before other lines. All are data where one can't be read."""
+        look = PART if one else LOOK
+        end, sector = min(offset + length, offset - offset % look + look), offset // SECTOR
         while sector * SECTOR < end and self.is_ignoring(sector):
             sector += 1
         end = min(end, sector * SECTOR)
@@ -233,10 +233,16 @@ class Export:
         self.content[offset : offset + len(data)] = data
         return reply()
 
-    def hint(self, kind, offset, length):
-        if kind == TRIM and not self.writable:
+    def trim(self, offset, length):
+        if not self.writable:
             return reply(EPERM)
         return reply(EINVAL) if offset + length > len(self.content) else reply()
+
+    def cache(self, offset, length):
+        """The first 32 MiB are read, and none of their bytes are sent."""
+        if offset + length > len(self.content):
+            return reply(EINVAL)
+        return reply(EIO if self.fails(offset, min(length, MOST)) else 0)
 
 
 READ_ONLY, SEND_TRIM, SEND_WRITE_ZEROES, SEND_DF, CAN_MULTI_CONN, SEND_FAST_ZERO = 1 << 1, 1 << 5, 1 << 6, 1 << 7, 1 << 8, 1 << 11
@@ -322,6 +328,14 @@ def moves(kind, bits, chunked):
     return kind == READ and not bits & ~(FUA | (DF if chunked else 0)) or kind == WRITE and not bits & ~FUA
 
 
+def taken(pipe, count):
+    """So many bytes of a pipe, or all if it ends before."""
+    found = b""
+    while len(found) < count and (more := pipe.read(count - len(found))):
+        found += more
+    return found
+
+
 def without_log(errors):
     """The error output without these lines, if it has them."""
     return LOG.sub(b"", errors, 1)
@@ -358,17 +372,18 @@ def reason_of(sent):
 
 
 def lost_in(sent, export):
-    """The sector of each request that ends with a fault: the one that a READ can't read, or a write in which it begins or ends; else
-    the first one of the write, which is a single piece."""
+    """The sector of each request that ends with a fault: the one that a READ or CACHE can't read, or a write in which it begins or ends;
+    else the first one of the write, which is a single piece."""
     found = []
     for kind, bits, offset, length in requests_of(sent):
-        if kind in (READ, WRITE, ZEROES) and offset + length <= len(export.content) and export.fails(offset, length):
+        tried = min(length, MOST) if kind == CACHE else length
+        if kind in (READ, CACHE, WRITE, ZEROES) and offset + length <= len(export.content) and export.fails(offset, tried):
             first, end = offset // SECTOR, offset + length
             parts = [first] * (offset % SECTOR > 0) + [end // SECTOR] * (end % SECTOR > 0)
             parts = [it for it in parts if export.fails(it * SECTOR, SECTOR)]
-            if kind == READ:
+            if kind in (READ, CACHE):
                 first = next(max(first, low) for low, high in export.lost if first < high)
-            found.append(parts[0] if parts and kind != READ else first)
+            found.append(parts[0] if parts and kind in (WRITE, ZEROES) else first)
     return found
 
 
@@ -378,9 +393,11 @@ def served_by(sent, name):
     while name is None and sent[at : at + 8] == OPTION_MAGIC:
         number, count = struct.unpack(">II", sent[at + 8 : at + 16])
         data = sent[at + 16 : at + 16 + count]
-        named = data if number == EXPORT_NAME else data[4 : 4 + int.from_bytes(data[:4], "big")] if number == GO else b""
-        if named.decode("latin-1") in found:
-            return found[named.decode("latin-1")]
+        if number in (EXPORT_NAME, GO):
+            named = data if number == EXPORT_NAME else data[4 : 4 + int.from_bytes(data[:4], "big")]
+            opened = named.decode("latin-1") or next(iter(found))
+            if opened in found:
+                return found[opened]
         at += 16 + count
     return found.get(name)
 

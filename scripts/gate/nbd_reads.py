@@ -3,10 +3,14 @@ import struct
 import subprocess
 
 from nbd_messages import (
-    ACK, BLOCK, CACHE, DF, DISC, EINVAL, EXPORT_NAME, Export, FAST_ZERO, FLUSH, FUA, GO, GREETING, INVALID, LIST, MOST, NO_HOLE, PIECE,
+    ACK, BLOCK, CACHE, DF, DISC, EINVAL, EIO, EXPORT_NAME, Export, FAST_ZERO, FLUSH, FUA, GO, GREETING, INVALID, LIST, MOST, NO_HOLE, PIECE,
     READ, REQ_ONE, SECTOR, SERVER, STATUS, STRUCTURED, TRIM, WRITE, ZEROES, asks, begun, begun_in_chunks, exports, failed,
-    faults_line, flags, lost_in, option, option_reply, reply, request, without_log,
+    faults_line, flags, lost_in, option, option_reply, reply, request, taken, without_log,
 )
+from verity import Tree, grown
+
+# The memory that a session may take while it serves a CACHE.
+CACHE_MEMORY = 8 << 20
 
 
 def transmissions(runner):
@@ -23,16 +27,16 @@ def transmissions(runner):
         runner.run(f"reads of {name}", name, sent + request(DISC), wanted)
         for bits in (FUA, NO_HOLE, FUA | NO_HOLE, DF, REQ_ONE, FAST_ZERO, 0x8000, 0x8001):
             asked, told = begun(e)
-            for kind, length, good in ((READ, 512, e.read(0, 512)), (FLUSH, 0, reply()), (TRIM, 512, e.hint(TRIM, 0, 512)), (CACHE, 512, reply())):
+            for kind, length, good in ((READ, 512, e.read(0, 512)), (FLUSH, 0, reply()), (TRIM, 512, e.trim(0, 512)), (CACHE, 512, e.cache(0, 512))):
                 asked += request(kind, 0, length, bits=bits)
                 told += good if bits == FUA else reply(EINVAL)
             runner.run(f"flag {bits}", name, asked + request(READ, 0, 512), told + e.read(0, 512))
-        for kind in (TRIM, CACHE):
+        for kind, answer in ((TRIM, e.trim), (CACHE, e.cache)):
             asked, told = begun(e)
             for offset in places:
                 for length in (0, 1, 512, size, MOST + 1, 2**32 - 1):
                     asked += request(kind, offset, length) + request(READ, 0, 512)
-                    told += e.hint(kind, offset, length) + e.read(0, 512)
+                    told += answer(offset, length) + e.read(0, 512)
             runner.run(f"hints {kind} of {name}", name, asked, told, after=bytes(exports()["file"].content))
         for kind in (STATUS, 8, 100, 65535):
             asked, told = begun(e)
@@ -52,6 +56,12 @@ def transmissions(runner):
             sent += request(READ, offset, length)
             wanted += e.read(offset, length)
     runner.run("reads of holed", "holed", sent, wanted, status=3, told=faults_line(19, 35))
+    sent, wanted = begun(e)
+    for offset in (0, 1023, 1024, 1500, 1535, 1536, 2000):
+        for length in (0, 1, 2, 512, 513, 1024, size):
+            sent += request(CACHE, offset, length)
+            wanted += e.cache(offset, length)
+    runner.run("caches of holed", "holed", sent, wanted, status=3, told=faults_line(20, 49))
 
 
 def chunks(runner):
@@ -89,7 +99,7 @@ def chunks(runner):
             asked += request(kind, 0, 512)
             found += failed(EINVAL) if kind == STATUS else reply(EINVAL)
         asked += request(WRITE, 510, 4, data=b"four") + request(ZEROES, 0, 2) + request(TRIM, 0, 2) + request(READ, 508, 8)
-        found += e.write(510, b"four") + e.write(0, bytes(2)) + e.hint(TRIM, 0, 2) + e.chunks(508, 8)
+        found += e.write(510, b"four") + e.write(0, bytes(2)) + e.trim(0, 2) + e.chunks(508, 8)
         runner.run(f"others of {name} beside chunks", name, asked, found)
     e = exports()["holed"]
     sent, wanted = begun_in_chunks(e)
@@ -108,7 +118,7 @@ def large_chunks(runner):
     size = 9 * PIECE // 2
     content = b"".join(struct.pack(">I", k) for k in range(size // 4))
     sectors = size // SECTOR
-    for lost in ((), (0,), (1,), (511,), (512,), (513, 700), (1023, 1024), (1030,), (sectors - 1,)):
+    for lost in ((), (0,), (1,), (2047,), (2048,), (2049, 2800), (4095, 4096), (4102,), (sectors - 1,)):
         lines, at = [], 0
         for k in (*lost, sectors):
             lines += [f"{at} {k - at} linear F {at}"] * (at < k) + [f"{k} 1 error"] * (k < sectors)
@@ -129,10 +139,10 @@ def large_chunks(runner):
 def large_holes(runner):
     """READs of several pieces over zeros, data and a sector that fails: where a piece begins with zeros, they are a hole."""
     for lines in (
-        (("zero", 2304),),
-        (("linear", 3), ("zero", 697), ("linear", 400), ("error", 1), ("zero", 199), ("linear", 1004)),
-        (("zero", 512), ("linear", 512), ("zero", 1), ("linear", 511), ("zero", 768)),
-        (("zero", 5), ("error", 1), ("zero", 6), ("linear", 1), ("zero", 1), ("error", 1), ("zero", 2289)),
+        (("zero", 9216),),
+        (("linear", 3), ("zero", 2785), ("linear", 1600), ("error", 1), ("zero", 799), ("linear", 4028)),
+        (("zero", 2048), ("linear", 2048), ("zero", 1), ("linear", 2047), ("zero", 3072)),
+        (("zero", 5), ("error", 1), ("zero", 6), ("linear", 1), ("zero", 1), ("error", 1), ("zero", 9201)),
     ):
         at, text, content, spans = 0, [], b"", {"zero": [], "error": [], "linear": []}
         for kind, count in lines:
@@ -188,17 +198,93 @@ def gone(runner):
     sent, told = begun_in_chunks(e)
     whole = told + e.chunks(3, size - 3)
     heads = [len(told) + k for k in range(40)] + [len(told) + 20 + 8 + PIECE - 3 + k for k in range(-2, 40)] + [len(whole) - k for k in range(4)]
-    for taken in heads:
+    for count in heads:
         served = subprocess.Popen([runner.program, "nbd", "large", "l", "F=ro:F"], bufsize=0, stdin=subprocess.PIPE, stdout=subprocess.PIPE, stderr=subprocess.PIPE)
         served.stdin.write(sent + request(READ, 3, size - 3))
-        found = b""
-        while len(found) < taken and (more := served.stdout.read(taken - len(found))):
-            found += more
+        found = taken(served.stdout, count)
         for it in (served.stdout, served.stdin):
             it.close()
         told_of = served.stderr.read()
         served.stderr.close()
         status = served.wait(60)
         # the last bytes may be in the pipe already
-        wanted = (1,) if len(whole) - taken > 1 << 17 else (0, 1)
-        runner.count(f"gone behind {taken} bytes", found == whole[:taken] and not without_log(told_of) and status in wanted, f"status {status}, {told_of[:80]!r}")
+        wanted = (1,) if len(whole) - count > 1 << 17 else (0, 1)
+        runner.count(f"gone behind {count} bytes", found == whole[:count] and not without_log(told_of) and status in wanted, f"status {status}, {told_of[:80]!r}")
+
+
+def caches(runner):
+    """CACHEs of more than 32 MiB: the first 32 MiB are read, and no more. The first sector after them can't be read."""
+    size, lost = MOST + 4 * PIECE, MOST // SECTOR
+    open("long", "w").write(f"l,,,ro,0 {lost} linear F 0,{lost} 1 error,{lost + 1} {size // SECTOR - lost - 1} linear F {lost + 1}")
+    with open("F", "wb") as it:
+        it.truncate(size)
+    e = Export("l", bytes(size), lost=[(lost, lost + 1)])
+    sent, told = begun(e)
+    asked = [(0, MOST, 0), (0, MOST + 1, 0), (0, size, 0), (1, MOST - 1, 0), (1, MOST, EIO), (SECTOR, size - SECTOR, EIO), (MOST - 1, 2, EIO)]
+    asked += [(MOST, 1, EIO), (MOST + SECTOR, 4 * PIECE - SECTOR, 0), (1, size, EINVAL), (0, 2**32 - 1, EINVAL), (size, 0, 0)]
+    for offset, length, error in asked:
+        sent += request(CACHE, offset, length, cookie=offset ^ length)
+        told += reply(error, cookie=offset ^ length)
+    runner.serve("caches of more than 32 MiB", ["long", "l", "F=ro:F"], sent, told, [lost] * 4)
+    open("long", "w").write(f"l,,,ro,0 {size // SECTOR} linear F 0")
+    cached_bytes(runner, size)
+
+
+def cached_bytes(runner, size):
+    """How many bytes a CACHE reads, by the kernel's count of the process: the request, and the sectors of the first 32 MiB."""
+    sent, told = begun(Export("l", bytes(size), shared=True))
+    served = subprocess.Popen([runner.program, "nbd", "long", "l", "F=ro:F"], bufsize=0, stdin=subprocess.PIPE, stdout=subprocess.PIPE, stderr=subprocess.DEVNULL)
+    served.stdin.write(sent)
+    good, before = taken(served.stdout, len(told)) == told, bytes_read(served.pid)
+    runner.count("bytes that a CACHE reads: it begins", good)
+    for offset, length, wanted in (
+        (0, 0, 0), (0, 1, SECTOR), (700, 1, SECTOR), (1023, 2, 2 * SECTOR), (PIECE, 3 * PIECE, 3 * PIECE), (PIECE // 2, PIECE + 1, PIECE + SECTOR),
+        (0, MOST, MOST), (0, size, MOST), (PIECE // 2, MOST + 1, MOST), (size, 0, 0),
+    ):
+        asked = request(CACHE, offset, length)
+        served.stdin.write(asked)
+        good = taken(served.stdout, len(reply())) == reply()
+        after = bytes_read(served.pid)
+        runner.count(f"bytes that a CACHE of {length} bytes at {offset} reads", good and after - before == len(asked) + wanted, f"{after - before - len(asked)} and not {wanted}")
+        before = after
+    peak = most_memory(served.pid)
+    runner.count("memory that a CACHE takes", 0 < peak <= CACHE_MEMORY, f"{peak} bytes, and not at most {CACHE_MEMORY}")
+    rest, _ = served.communicate(request(DISC), timeout=60)
+    runner.count("bytes that a CACHE reads: the end", not rest and served.returncode == 0)
+
+
+def most_memory(process):
+    """The most memory in bytes that a process had, of which some is that of the program's file."""
+    with open(f"/proc/{process}/status", encoding="ascii") as it:
+        return 1024 * int(next(line.split()[1] for line in it if line.startswith("VmHWM:")))
+
+
+def bytes_read(process):
+    """How many bytes a process has read by calls of the system."""
+    with open(f"/proc/{process}/io", encoding="ascii") as it:
+        return int(it.readline().split()[1])
+
+
+def kept_blocks(runner):
+    """READs of the parts of a data block, whose device is emptied after the first: none of the others reads it, but with `--cache 0`
+    each does. A READ of all of the block reads it, fails, and is then answered by its sectors; one of the next block fails."""
+    content = bytes((3 * k + k // SECTOR) % 251 for k in range(2 * BLOCK))
+    tree = Tree(BLOCK, BLOCK, 2)
+    placed, root = grown(tree, b"salt", [content[:BLOCK], content[BLOCK:]])
+    open("H", "wb").write(b"".join(placed[place] for place in range(sum(tree.levels))))
+    open("kept", "w").write(f"v,,,ro,0 16 verity 1 D H {BLOCK} {BLOCK} 2 0 sha256 {root.hex()} {b'salt'.hex()}")
+    e = Export("v", content)
+    sent, told = begun(e)
+    parts = [(at, SECTOR) for at in range(0, BLOCK, SECTOR)]
+    for cache in (64, 1, 0):
+        open("D", "wb").write(content)
+        words = [runner.program, "nbd", "--cache", str(cache), "kept", "v", "D=ro:D", "H=ro:H"]
+        served = subprocess.Popen(words, bufsize=0, stdin=subprocess.PIPE, stdout=subprocess.PIPE, stderr=subprocess.PIPE)
+        served.stdin.write(sent + request(READ, *parts[0]))
+        first = told + e.read(*parts[0])
+        found = taken(served.stdout, len(first))
+        open("D", "wb").close()
+        others = parts[1:] + [(700, 900), (0, BLOCK), (BLOCK, SECTOR)]
+        rest, said = served.communicate(b"".join(request(READ, *part) for part in others) + request(DISC), timeout=60)
+        wanted = b"".join(e.read(*part) if cache and part[0] < BLOCK else reply(EIO) for part in others)
+        runner.count(f"kept blocks, --cache {cache}", found == first and rest == wanted and served.returncode == 3, said[:200])

@@ -5,7 +5,7 @@ import subprocess
 import threading
 
 from nbd_messages import (
-    BLOCK, BLOCK_STATUS, DF, EINVAL, ENOMEM, Export, FAST_ZERO, FUA, GREETING, HOLE_AND_ZERO, NO_HOLE, PART, PIECE, READ,
+    BLOCK, BLOCK_STATUS, DF, EINVAL, ENOMEM, Export, FAST_ZERO, FUA, GREETING, HOLE_AND_ZERO, LOOK, NO_HOLE, PART, READ,
     REQ_ONE, SECTOR, STATUS, begins_to_differ, begun_in_chunks, chunk, exports, failed, failed_at, request, without_log,
 )
 from verity import Tree, grown
@@ -124,7 +124,7 @@ def short_of_memory(runner, label, stack, e):
     subprocess.run(["cc", "-shared", "-fPIC", "-O2", "-o", library, source, "-ldl"], check=True)
     sent, told = begun_in_chunks(e, True)
     size = len(e.content)
-    unread = chunk(BLOCK_STATUS, struct.pack(">III", 1, min(size, PIECE), 0))
+    unread = chunk(BLOCK_STATUS, struct.pack(">III", 1, min(size, LOOK), 0))
     answers = [e.status(0, size), unread, failed(ENOMEM)]
     for number in range(1, 10000):
         if os.path.exists("met"):
@@ -143,13 +143,13 @@ def short_of_memory(runner, label, stack, e):
 
 
 def ask_statuses(runner, label, stack, e):
-    """Each status at the ends of blocks, pieces and lines, then a walk over the whole export, extent by extent or reply by reply."""
+    """Each status at the ends of blocks, looks and lines, then a walk over the whole export, extent by extent or reply by reply."""
     size = len(e.content)
     sent, wanted = begun_in_chunks(e, True)
     ends = [low * SECTOR for low, _ in (*e.zeros, *e.ignoring)] + [high * SECTOR for _, high in (*e.zeros, *e.ignoring)]
-    places = {0, 1, BLOCK, 3 * BLOCK, 5 * BLOCK + 1, PART, PIECE, 90 * BLOCK, 100 * BLOCK - SECTOR, 131 * BLOCK, size - 1, size - BLOCK}
+    places = {0, 1, BLOCK, 3 * BLOCK, 5 * BLOCK + 1, PART, LOOK, 90 * BLOCK, 100 * BLOCK - SECTOR, 131 * BLOCK, size - 1, size - BLOCK}
     for at in sorted({place + step for place in (*places, *ends) for step in (-1, 0, 513)}):
-        for length in (1, 511, SECTOR, BLOCK, BLOCK + 1, PART, PIECE - 1, PIECE, PIECE + 9, size - at, size - at + 1):
+        for length in (1, 511, SECTOR, BLOCK, BLOCK + 1, PART, LOOK - 1, LOOK, LOOK + 9, size - at, size - at + 1):
             if at >= 0 and 0 <= length < 2**32:
                 sent += request(STATUS, at, length) + request(STATUS, at, length, bits=REQ_ONE)
                 wanted += e.status(at, length) + e.status(at, length, True)

@@ -76,7 +76,7 @@ def zeroes(runner):
                 elif offset + length > size:
                     wanted += reply(ENOSPC)
                 else:
-                    wanted += reply(ENOTSUP) if bits & FAST_ZERO else e.write(offset, bytes(length))
+                    wanted += reply(ENOTSUP) if bits & FAST_ZERO and length else e.write(offset, bytes(length))
                 wanted += e.read(0, size)
         runner.run(f"zeroes with flags {bits}", "file", sent + request(DISC), wanted, after=bytes(e.content))
     size = 80 << 20
@@ -89,6 +89,28 @@ def zeroes(runner):
         runner.serve(f"{length} zeroes at {offset}", ["long", "f", "F=rw:F"], sent, wanted)
         left = b"\xa5" * offset + bytes(length) + b"\xa5" * (size - offset - length)
         runner.count(f"{length} zeroes at {offset}: the image", open("F", "rb").read() == left)
+
+
+def fast_zeroes(runner):
+    """Zeros that must be fast: they are if each sector that they touch is on a `zero` line, and then nothing is written."""
+    content = bytes(1 + k % 251 for k in range(8 * SECTOR))
+    open("F", "wb").write(content)
+    open("fast", "w").write("m,,,rw,0 2 linear F 0,2 4 zero,6 1 zero,7 1 linear F 7;o,,,rw,0 7 linear /dev/mapper/m 1")
+    for name, first in (("m", 0), ("o", 1)):
+        held = (content[: 2 * SECTOR] + bytes(5 * SECTOR) + content[7 * SECTOR :])[first * SECTOR :]
+        low, high = (2 - first) * SECTOR, (7 - first) * SECTOR
+        for bits in (FAST_ZERO, FUA | NO_HOLE | FAST_ZERO):
+            sent, wanted = begun(Export(name, held, writable=True))
+            for offset in (0, 1, low - 1, low, low + 1, low + 512, low + 2048, high - 512, high - 1, high, len(held)):
+                for length in (0, 1, 511, 512, 513, 5 * SECTOR - 1, 5 * SECTOR, 5 * SECTOR + 1, len(held)):
+                    sent += request(ZEROES, offset, length, bits=bits) + request(READ, 0, len(held))
+                    if offset + length > len(held):
+                        wanted += reply(ENOSPC)
+                    else:
+                        wanted += reply(0 if not length or low <= offset and offset + length <= high else ENOTSUP)
+                    wanted += reply(data=held)
+            runner.serve(f"fast zeroes of {name} with flags {bits}", ["fast", name, "F=rw:F"], sent, wanted)
+            runner.count(f"fast zeroes of {name} with flags {bits}: the image", open("F", "rb").read() == content)
 
 
 def long_runs(runner):

@@ -1,12 +1,13 @@
 #!/usr/bin/env python3
-"""Tries `dmstack repair --fec` on images with parity that veritysetup made and that are damaged at random.
+"""Tries `dmstack repair --fec`, and reads with parity, on images with parity that veritysetup made and that are damaged at random.
 
 repaired_images.py [--cases N] [--seed S] [PROGRAM]: formats images by veritysetup, with 2 to 24 bytes of parity in a codeword,
 damages blocks of the data, of the tree and of the parity, and repairs them. If data are damaged, those blocks must be restored whose round
 has no more corrupt blocks than a codeword has bytes of parity, and undamaged parity, and those whose wrong bytes the model corrects; if
 only the tree is, all of it. No block may hold
 other bytes than the formatted ones or the damaged ones, --check may change none, and what ends with the status 0 veritysetup must
-verify, its parity too. Where veritysetup isn't installed it says so, and tries nothing (Debian: cryptsetup-bin).
+verify, its parity too. Before that `cat` reads the data with the line of `table --fec`: no other byte than the formatted ones, and all
+of them, if no round has lost more than one block of data and tree, nor parity. Where veritysetup isn't installed it says so, and tries nothing (Debian: cryptsetup-bin).
 """
 import argparse
 import os
@@ -49,8 +50,8 @@ class Image:
         made = run(VERITYSETUP, "format", *sizes, f"--salt={dice.randbytes(8).hex()}", *self.fec, "data", "hash")[1]
         self.root = re.search("Root hash: *\t*([0-9a-f]{64})", made)[1]
         self.files = {name: read(name) for name in ("data", "hash", "parity")}
-        covered = self.blocks + len(self.files["hash"]) // self.block - 1
-        self.rounds = -(-covered // (255 - self.roots))
+        self.covered = self.blocks + len(self.files["hash"]) // self.block - 1
+        self.rounds = -(-self.covered // (255 - self.roots))
 
     def blocks_of(self, name, content):
         size = self.block * self.roots if name == "parity" else self.block
@@ -108,6 +109,36 @@ def comes_back(image, bad, turns, before, writes):
     return [f"data {it} parity" for it in found]
 
 
+def one_of_each(dice, image):
+    """At most one covered block of each round: those of the data, and those of the file of the tree."""
+    files = [("data", it) for it in range(image.blocks)] + [("hash", 1 + it) for it in range(image.covered - image.blocks)]
+    found = {"data": [], "hash": []}
+    for turn in range(image.rounds):
+        members = files[turn::image.rounds]
+        of_tree = [it for it in members if it[0] == "hash"]
+        name, place = dice.choice(of_tree if of_tree and dice.random() < 0.5 else members)
+        if dice.random() < 0.9:
+            found[name].append(place)
+    return found
+
+
+def read_with_parity(image):
+    """The status of `cat` with the line of `table --fec`, and what it prints."""
+    table = [PROGRAM, "table", "--fec", "P", "--fec-roots", image.roots, "--name", "v", "hash", image.root, "D", "H"]
+    write("stack", run(*table)[1].encode())
+    words = [PROGRAM, "cat", "stack", "v", "D=ro:data", "H=ro:hash", "P=ro:parity"]
+    done = subprocess.run([str(it) for it in words], capture_output=True, timeout=120)
+    return done.returncode, done.stdout
+
+
+def tried_read(dice, label):
+    image = Image(dice)
+    for name, places in one_of_each(dice, image).items():
+        image.damage(dice, name, places)
+    status, printed = read_with_parity(image)
+    say(f"{label}: all data are read", status == 0 and printed == image.files["data"], f"status {status}")
+
+
 def tried(dice, label):
     image = Image(dice)
     bad = picked(dice, image)
@@ -117,6 +148,7 @@ def tried(dice, label):
     for name, places in (("data", bad), ("hash", tree), ("parity", turns)):
         image.damage(dice, name, places)
     before = {name: read(name) for name in image.files}
+    say(f"{label}: no other data are read", image.files["data"].startswith(read_with_parity(image)[1]))
     words = [PROGRAM, "repair", "--fec", "parity", "--fec-roots", image.roots]
     looked = run(*words, "--check", "data", "hash", image.root)
     say(f"{label}: --check changes nothing", all(read(name) == before[name] for name in before))
@@ -154,6 +186,7 @@ def main():
         return 0
     for _, dice, label in random_cases(WORDS):
         tried(dice, label)
+        tried_read(dice, label)
     return CHECKS.end("repaired images")
 
 

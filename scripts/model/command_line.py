@@ -24,7 +24,7 @@ DONE, REFUSED, USAGE, FAULT = range(4)
 MOST_OF_A_TEXT = 1024 * 1024
 MOST_OF_A_MAP = 16 * 1024 * 1024
 TARGETS = ("linear", "striped", "zero", "error", "crypt", "verity", "zero_blocks", "sector_size",
-           "unstriped", "healing")
+           "unstriped", "healing", "signature_key")
 # Options and forms of words that a program may not have yet; without them they are wrong words.
 FORMS = ("all", "grow", "json", "map", "retries", "differing", "progress", "pass-cache", "parts", "input-stack", "store-file",
          "exports", "fec", "bound-partitions", "bound-maps", "disk")
@@ -150,16 +150,19 @@ def run_load(options, words, files, _given, features):
         raise Usage
     rest, text = begun(path, bindings(rest), files)
     stack = loaded(text, rest, files, features)
-    configuration = stack.configuration
+    return Noted(configuration_lines(options, stack.configuration, rest), stack.configuration.warnings()), DONE
+
+
+def configuration_lines(options, configuration, words):
     if b"tree" in options:
-        return Tree(configuration, rest).text(), DONE
+        return Tree(configuration, words).text()
     if b"json" in options:
-        return [Json({"devices": [facts_of(configuration, it) for it in configuration.devices.values()]})], DONE
+        return [Json({"devices": [facts_of(configuration, it) for it in configuration.devices.values()]})]
     lines = []
     for device in configuration.devices.values():
         flag = "rw" if device.writable else "ro"
         lines.append(device.name + (" %s %s" % (costs(configuration, device), flag)).encode())
-    return lines, DONE
+    return lines
 
 
 def facts_of(configuration, device):

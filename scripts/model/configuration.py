@@ -81,6 +81,12 @@ class Configuration:
             found += [self.lower(argument) for argument in line.target.lower()]
         return found
 
+    def warnings(self):
+        """What is printed on standard error: that no signature is checked, if a line names the key of one."""
+        targets = [line.target for device in self.devices.values() for line in device.lines]
+        is_signed = any(isinstance(it, Verity) and it.signature_key is not None for it in targets)
+        return [b"dmstack: warning: no signature of a root hash is checked"] if is_signed else []
+
     def after(self, entries):
         """The configuration to come, with each rule that it could break checked in order."""
         names = set()
@@ -220,8 +226,8 @@ class Configuration:
         if isinstance(target, Verity):
             levels = len(Tree(target.data_block, target.hash_block, target.blocks).levels)
             data, tree = lowers[:2]
-            # The other blocks of a round and its parity: 254 blocks.
-            healing = 254 * (target.data_block // 512) * max(lowers) if target.parity else 0
+            # The other blocks of a round and its parity, 254 blocks, for the data block and each hash block on the way to it.
+            healing = (levels + 1) * 254 * (target.data_block // 512) * max(lowers) if target.parity else 0
             return target.data_block // 512 * data + levels * (target.hash_block // 512) * tree + healing
         if isinstance(target, Crypt):
             return target.unit() * lowers[0]

@@ -40,8 +40,8 @@ REASONS = {
 ENDED, GONE = b"the client ended the session", b"the client disconnected"
 MOST_OF_AN_OPTION, MOST_OF_A_REQUEST, MOST_OPTIONS = 65536, 32 * 1024 * 1024, 1024
 # Where the pieces of a READ end, and the blocks at the ends of one that are holes where they are zeros. A BLOCK_STATUS that
-# reads does so up to the end of a piece, or of a part of one where one extent is asked for, and tells zeros by such blocks.
-PIECE, PART, BLOCK = 256 * 1024, 64 * 1024, 4096
+# reads does so up to the end of a look, or of a part of one where one extent is asked for, and tells zeros by such blocks.
+PIECE, LOOK, PART, BLOCK = 1024 * 1024, 256 * 1024, 64 * 1024, 4096
 # The most sectors of a piece that is read again.
 FEW = 8
 # The most sectors of a run of zeros that is written, and of a piece of a write.
@@ -115,18 +115,19 @@ class Service:
             status, line, reason = end.status, end.line, end.reason
         if status == DONE and self.faults:
             status, line = FAULTS, b"faults %d requests %d" % (self.faults, self.requests)
-        self.replies.warnings = [*([] if is_quiet else self.log(reason)), *([line] if line else [])]
+        self.replies.warnings = [*(self.stack.configuration.warnings() if is_quiet else self.log(reason)), *([line] if line else [])]
         return self.replies, status
 
     def log(self, reason):
-        """The lines on a service that isn't quiet: one on each device, those on the first faults, and at the end one on the requests."""
+        """The lines on a service that isn't quiet: the warnings of its stack, one on each device, those on the first faults, and at the
+        end one on the requests."""
         devices = [b"dmstack: export %s %d bytes %s%s" % (it.name, it.sectors * SECTOR, b"rw" if it.writable else b"ro", root_of(it)) for it in self.devices]
         listed = [line for _, _, line in self.listed[:MOST_LISTED]]
         left_out = self.faults - len(listed)
         more = [b"dmstack: %d more faulty requests" % left_out] if left_out > 0 else []
         counts = self.requests, self.moved, self.faults, reason
         served = b"dmstack: served %d requests of %d bytes, %d with an input/output error, 0 with NoSpace; %s" % counts
-        return [*devices, *listed, *more, served]
+        return [*self.stack.configuration.warnings(), *devices, *listed, *more, served]
 
     def lose(self, sector, fault, is_alone=True):
         """A request ends with a fault at a sector, or at the piece that begins with it. Returns what the chunk of an error says of it:
@@ -134,22 +135,17 @@ class Service:
         kind = b" ".join(fault.text.encode().split()[2:])
         block = self.stack.data_block(self.device, sector) if is_alone and fault.text == MISMATCH else None
         self.faults += 1
-        told = kind if block is None else b"%s, data block %d" % (kind, block)
-        if not any(sector == other or block is not None and block == met and sector // 8 == other // 8 for other, met, _ in self.listed):
+        told = kind if block is None else b"%s, data block %d" % (kind, block[1])
+        if not any(sector == other or block is not None and block == met for other, met, _ in self.listed):
             self.listed.append((sector, block, b"dmstack: export %s: sector %d: %s" % (self.device.name, sector, told)))
-        return TEXTS[kind.split()[0]] if block is None else b"data block %d fails verification" % block
+        return TEXTS[kind.split()[0]] if block is None else b"data block %d fails verification" % block[1]
 
-    def lose_asked(self, command, offset, length, fault):
-        """A request that isn't answered in pieces ends with a fault: the sectors of a READ are read one by one; of a write the piece is
-        known that failed."""
-        if command != READ:
+    def lose_asked(self, command, fault):
+        """A request that isn't answered in pieces ends with a fault: at the first sector of a READ or CACHE that can't be read alone; of a
+        write the piece is known that failed."""
+        if command not in (READ, CACHE):
             return self.lose(*self.put_failed)
-        for sector in range(offset // SECTOR, -(-(offset + length) // SECTOR)):
-            try:
-                self.stack.read_run(self.device, sector, 1)
-            except Fault as own:
-                return self.lose(sector, own)
-        raise fault
+        return self.lose(self.lost // SECTOR, fault)
 
     def begin(self):
         """A message begins: where the input has ended, the client went away between two of them."""
@@ -208,8 +204,8 @@ class Service:
         return False
 
     def named(self, name):
-        """The device that a client names; an only one has no name too."""
-        if name == b"" and len(self.devices) == 1:
+        """The device that a client names; the first one has no name too."""
+        if name == b"" and self.devices:
             return self.devices[0]
         return next((device for device in self.devices if device.name == name), None)
 
@@ -300,7 +296,7 @@ class Service:
         except Refused as refused:
             error, answer, text = refused.error, b"", TEXTS[refused.error]
         except Fault as fault:
-            error, answer, text = EIO, b"", self.lose_asked(command, offset, length, fault)
+            error, answer, text = EIO, b"", self.lose_asked(command, fault)
         if self.structured and command in (READ, BLOCK_STATUS):
             octets = framed(cookie, True, *self.chunk(command, offset, answer, error, text))
         else:
@@ -308,7 +304,18 @@ class Service:
         self.replies.add(asked, octets)
 
     def pieces(self, at, end):
-        """The chunks of a READ, piece by piece; the zeros of lines with which one begins are a hole, and aren't read.
+        """The chunks of a READ, piece by piece; the zeros of lines with which one begins are a hole."""
+        try:
+            for begin, behind, octets in self.parts(at, end):
+                if octets is None:
+                    yield behind == end, OFFSET_HOLE, struct.pack(">QI", begin, behind - begin)
+                else:
+                    yield from told(begin, octets, behind == end)
+        except Fault as fault:
+            yield True, ERROR_OFFSET, error_told(EIO, self.lose(self.lost // SECTOR, fault)) + struct.pack(">Q", self.lost)
+
+    def parts(self, at, end):
+        """Where each piece of a READ begins and ends, and its bytes: none of the zeros of lines with which one begins.
 
         One that fails is read by pieces of a few sectors, and one of these sector by sector, up to the one that fails.
         """
@@ -317,22 +324,22 @@ class Service:
             behind = self.piece_end(at, end, 1 if at < single else FEW if at < slow else PIECE // SECTOR)
             hole = self.zeros_end(at, behind)
             if hole > at:
-                yield hole == end, OFFSET_HOLE, struct.pack(">QI", at, hole - at)
+                yield at, hole, None
                 at = hole
                 continue
             try:
                 octets = self.read(at, behind - at)
-            except Fault as fault:
+            except Fault:
                 sectors = -(-behind // SECTOR) - at // SECTOR
                 if sectors == 1:
-                    yield True, ERROR_OFFSET, error_told(EIO, self.lose(at // SECTOR, fault)) + struct.pack(">Q", at)
-                    return
+                    self.lost = at
+                    raise
                 if sectors > FEW:
                     slow = behind
                 else:
                     single = behind
                 continue
-            yield from told(at, octets, behind == end)
+            yield at, behind, octets
             at = behind
 
     def piece_end(self, at, end, most):
@@ -377,13 +384,17 @@ class Service:
             raise Refused(EPERM)
         if offset + length > self.size:
             raise Refused(ENOSPC if command in (WRITE, WRITE_ZEROES) else EINVAL)
-        if command == WRITE_ZEROES and flags & FAST_ZERO:
+        if command == WRITE_ZEROES and flags & FAST_ZERO and length and self.zeros_end(offset, offset + length) != offset + length:
             raise Refused(ENOTSUP)
 
     def done(self, command, flags, offset, length, data):
         """The bytes that a request gives."""
         if command == READ:
-            return self.read(offset, length)
+            parts = self.parts(offset, offset + length)
+            return b"".join(bytes(behind - at) if octets is None else octets for at, behind, octets in parts)
+        if command == CACHE:
+            for _ in self.parts(offset, offset + min(length, MOST_OF_A_REQUEST)):
+                pass
         if command == BLOCK_STATUS:
             return self.status(offset, length, 1 if flags & REQ_ONE else MOST_EXTENTS)
         if command == WRITE and data:
@@ -422,8 +433,8 @@ class Service:
 
     def status_read(self, offset, end, most):
         """The extents of bytes that are read, block by block; those that can't be read are data."""
-        piece = PART if most == 1 else PIECE
-        end = min(end, offset - offset % piece + piece)
+        look = PART if most == 1 else LOOK
+        end = min(end, offset - offset % look + look)
         try:
             octets = self.read(offset, end - offset)
         except Fault:
@@ -519,7 +530,7 @@ def asked_for(data):
 
 
 def queried(data):
-    """The name and the queries of LIST_META_CONTEXT and SET_META_CONTEXT, or None where their length is wrong."""
+    """The name and the queries of LIST_META_CONTEXT and SET_META_CONTEXT, or None where their length is wrong, or one has no namespace."""
     def string():
         nonlocal data
         if len(data) < 4 or len(data) < 4 + int.from_bytes(data[:4], "big"):
@@ -537,4 +548,4 @@ def queried(data):
             found.append(string())
     except ValueError:
         return None
-    return None if data else (name, found)
+    return None if data or any(query.find(b":") < 1 for query in found) else (name, found)

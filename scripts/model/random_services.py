@@ -207,7 +207,7 @@ class Services(Recoveries):
         offset, length = self.pick([0, 1]), MOST + self.pick([-1, 0, 1])
         if self.chance(0.3):
             return Request(WRITE, offset, data=self.bytes_to_write(length), cookie=self.cookie())
-        return Request(READ, offset, length, cookie=self.cookie())
+        return Request(self.pick([READ, READ, CACHE]), offset, length, cookie=self.cookie())
 
     def bytes_to_write(self, length):
         if self.chance(0.3):

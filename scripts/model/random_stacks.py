@@ -1,6 +1,7 @@
 """Random stack texts: most valid, some with a rule broken, some with any word changed."""
 
 import re
+from random import Random
 
 from configuration import LIMIT
 from parity import covered, parity_of
@@ -313,8 +314,11 @@ class Stacks(Dice):
         image, root = self.tree_image(tree, salt, data)
         hashes = b"T%d" % len(words)
         kind = self.pick([b"ro", b"rw"])
-        words.append(b"%s=%s:%s" % (hashes, kind, self.new_file(image, b"tree")))
+        file = self.new_file(image, b"tree")
+        words.append(b"%s=%s:%s" % (hashes, kind, file))
         healing = self.healing_words(words, tree, data, image) if self.has("targets", "healing") and self.chance(0.6) else []
+        if healing:
+            self.files[file] = self.with_lost_blocks(tree, image)
         if healing and self.has("forms", "bound-maps") and self.chance(0.4):
             self.lose_sectors(words, leaf, stack.images[leaf.name].stored(0, leaf.sectors))
         texts, device, tree_device = [], leaf.name, hashes
@@ -363,6 +367,15 @@ class Stacks(Dice):
         self.random.shuffle(pairs)
         return [b" ".join(pair) for pair in pairs]
 
+    def with_lost_blocks(self, tree, image):
+        """The image of a tree, in half of the cases with one or two hash blocks that differ from those that parity covers. The bytes
+        decide which, so that no other number is drawn."""
+        dice, changed = Random(image), bytearray(image)
+        for _ in range(dice.choice([0, 0, 1, 2])):
+            place = tree.start + dice.randrange(sum(tree.levels)) if tree.levels else 0
+            changed[min(place * tree.hash_block + dice.randrange(tree.hash_block), len(changed) - 1)] ^= 1 << dice.randrange(8)
+        return bytes(changed)
+
     def lose_sectors(self, words, leaf, content):
         """Binds a leaf's bytes, as a file with a map that lacks a few of its sectors."""
         place = [word.partition(b"=")[0] for word in words].index(leaf.name)
@@ -403,6 +416,8 @@ class Stacks(Dice):
         if self.chance(0.04):
             line = line.rpartition(b" ")[0] + b" " + b"5a" * self.pick([255, 256, 257])
         words = self.pick(options) + healing
+        if self.has("targets", "signature_key") and self.chance(0.1):
+            words.append(b"root_hash_sig_key_desc " + self.pick([b"verity:vendor", b"fec_start", b"k", b"k" * 255, b"k" * 256]))
         self.random.shuffle(words)
         count = len(b" ".join(words).split())
         return line + (b" %d " % count + b" ".join(words) if words or self.chance(0.2) else b"")

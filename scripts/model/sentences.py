@@ -7,6 +7,7 @@ files OUT and ERRORS, out of ERRORS. It prints what is wrong if the sentence isn
 
 import json
 import os
+import re
 import sys
 
 
@@ -18,6 +19,8 @@ def read_sentences():
 
 
 SENTENCES = read_sentences()
+# A service of whose requests each that failed lacked space, and the sentence on it in place of that on other faults.
+FULL = re.compile(rb"dmstack: served \d+ requests of \d+ bytes, 0 with an input/output error, [1-9]")
 # Why a session isn't begun: what these names say of its bindings.
 UNBEGUN = (b"NotFound", b"NotAllowed", b"TooLarge", b"OtherFault", b"SameFile", b"InUse", b"OutsideFile", b"DuplicateLeaf",
            b"TooMany", b"BadName")
@@ -56,7 +59,9 @@ def expected(out, errors, status, words):
     if words[:1] == [b"session"] and status == 1 and is_reply(out):
         return b""
     lines = errors.split(b"\n")[:-1] + [line_of(line) for line in out.split(b"\n")[-2:-1]]
-    return next(filter(None, map(sentence_on, lines)), b"")
+    sentence = next(filter(None, map(sentence_on, lines)), b"")
+    is_full = sentence == sentence_on(b"faults 1 requests 1") and any(map(FULL.match, lines))
+    return sentence_on(b"faults of a full image") if is_full else sentence
 
 
 def without_sentence(out, errors, status, words=()):

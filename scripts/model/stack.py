@@ -202,14 +202,14 @@ class Stack:
         return (at + 1) % size == 0 and self.ends_units(self.configuration.lower(target.device), place)
 
     def data_block(self, lower, sector):
-        """The data block in which a sector lies, of the first `verity` line on its way down; None if there is no such line."""
+        """The data block in which a sector lies, with the first `verity` line on its way down; None if there is no such line."""
         if isinstance(lower, Leaf):
             return None
         target, at, _ = next(self.runs(lower, sector, 1))
         if isinstance(target, (Zero, Error)):
             return None
         if isinstance(target, Verity):
-            return at // (target.data_block // SECTOR)
+            return id(target), at // (target.data_block // SECTOR)
         if isinstance(target, Crypt):
             return self.data_block(self.configuration.lower(target.device), target.offset + at)
         below, place, _ = next(self.lower_runs(target, at, 1))
@@ -276,26 +276,29 @@ class Stack:
         return lambda line, block: self.read_block(line, block, row if together and first <= block < end else None)
 
     def read_block(self, target, block, row):
-        """A verified data block: each hash block from the root down, then the block itself, or what parity restores."""
+        """A verified data block: each hash block from the root down, then the block itself, or what parity restores of each."""
         tree = Tree(target.data_block, target.hash_block, target.blocks, target.start)
         hash_device = self.configuration.lower(target.hash_device)
         expected, size, after = target.digest, target.hash_block // SECTOR, b""
         for place, slot in tree.way(block):
-            hashes = self.read_run(hash_device, place * size, size)
-            if digest(target.salt, hashes) != expected:
-                raise Fault(MISMATCH)
+            hashes = self.verified(target, hash_device, (place * size, size), target.blocks + place - target.start, expected)
             expected, after = hashes[32 * slot:32 * slot + 32], hashes[32 * slot + 32:]
         zeros = bytes(target.data_block)
         if ZERO_BLOCKS in target.options and expected == digest(target.salt, zeros):
             return zeros
         if row:
             self.read_row(target, block, row, after)
+        size = target.data_block // SECTOR
+        return self.verified(target, self.configuration.lower(target.device), (block * size, size), block, expected)
+
+    def verified(self, target, lower, run, number, expected):
+        """A block that is read alone, or what parity restores in its place; its number is that among the covered blocks."""
         try:
-            return self.checked(target, self.covered(target, block), expected)
+            return self.checked(target, self.read_run(lower, *run), expected)
         except Fault as own:
             if target.parity is None:
                 raise
-            return self.healed(target, block, expected, own)
+            return self.healed(target, number, expected, own)
 
     def read_row(self, target, block, row, after):
         """Reads a block together with the rest of its row, if it wasn't read with others: up to one that the last hash block on its

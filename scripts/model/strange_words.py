@@ -28,7 +28,7 @@ OPTION_WORDS = [
     b"sector_size:4096", b"sector_size:8192", b"sector_size:0512", b"iv_large_sectors",
     b"ignore_zero_blocks", b"check_at_most_once", b"high_priority", b"Allow_discards", b"restart_on_corruption",
     b"panic_on_corruption", b"ignore_corruption", b"try_verify_in_tasklet", b"use_fec_from_device", b"fec_roots", b"fec_blocks",
-    b"fec_start",
+    b"fec_start", b"root_hash_sig_key_desc",
 ]
 UUIDS = [
     b"00000000-0000-0000-0000-000000000000", b"6c0b2c0e-5a0d-4b5c-9a44-1d1f6a3b2c7e",

@@ -32,6 +32,8 @@ TASKLET = b"try_verify_in_tasklet"
 PRINTED_OPTIONS = (*ON_CORRUPTION, ZERO_BLOCKS, TASKLET)
 # A value follows each; a line has all four or none.
 PARITY_OPTIONS = (b"use_fec_from_device", b"fec_roots", b"fec_blocks", b"fec_start")
+# The description of a key follows it. It changes no byte.
+SIGNATURE_OPTION = b"root_hash_sig_key_desc"
 
 
 class TextFault(Exception):
@@ -136,6 +138,7 @@ class Verity:
     salt: bytes
     options: list = field(default_factory=list)
     parity: Parity | None = None
+    signature_key: bytes | None = None
 
     def lower(self):
         return [self.device, self.hash_device] + ([self.parity.device] if self.parity else [])
@@ -143,7 +146,9 @@ class Verity:
     def words(self):
         words = [b"verity", 1, self.device, self.hash_device, self.data_block, self.hash_block]
         words += [self.blocks, self.start, b"sha256", spelled(self.digest), spelled(self.salt)]
-        return words + counted(self.options + (self.parity.words() if self.parity else []))
+        parity = self.parity.words() if self.parity else []
+        signature = [SIGNATURE_OPTION, self.signature_key] if self.signature_key else []
+        return words + counted(self.options + parity + signature)
 
 
 @dataclass
@@ -334,6 +339,15 @@ def read_parity(values):
     return Parity(name, count, covered, the_number(need(values.get(start), "Option")))
 
 
+def read_signature_key(values):
+    if SIGNATURE_OPTION not in values:
+        return None
+    key = need(values[SIGNATURE_OPTION], "Option")
+    if not LEAF_NAME.fullmatch(key):
+        raise TextFault("Option")
+    return key
+
+
 def read_verity(words, features):
     if len(words) < 10:
         raise TextFault("ArgCount")
@@ -352,11 +366,15 @@ def read_verity(words, features):
             return not set(ON_CORRUPTION) & set(before)
         if word in PARITY_OPTIONS:
             return "healing" in features
+        if word == SIGNATURE_OPTION:
+            return "signature_key" in features
         return word == TASKLET or word == ZERO_BLOCKS and "zero_blocks" in features
 
-    options, values = read_options(words[10:], is_known, PARITY_OPTIONS)
+    options, values = read_options(words[10:], is_known, (*PARITY_OPTIONS, SIGNATURE_OPTION))
     options = sorted((it for it in options if it not in values), key=PRINTED_OPTIONS.index)
-    return Verity(device, hash_device, data_block, hash_block, blocks, start, digest, salt, options, read_parity(values))
+    parity = read_parity({name: values[name] for name in PARITY_OPTIONS if name in values})
+    key = read_signature_key(values)
+    return Verity(device, hash_device, data_block, hash_block, blocks, start, digest, salt, options, parity, key)
 
 
 def read_unstriped(words, _features):

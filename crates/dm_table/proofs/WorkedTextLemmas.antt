@@ -18,6 +18,7 @@ use Rattle.dm_table.specs.Names.{is_mapped_name, is_device}
 use Rattle.dm_table.specs.Arguments.{base_at, bytes_at}
 use Rattle.dm_table.specs.Options.{option_name, option_names, options_at, known_at, value_of}
 use Rattle.dm_table.specs.Parity.{fec_at, parity_at}
+use Rattle.dm_table.specs.SignatureKey.{description_at, signature_key_at}
 use Rattle.dm_table.specs.Crypt.{sector_size, iv_large_sectors, key_at, crypt_at}
 use Rattle.dm_table.specs.Verity.{salt_at, verity_at}
 use Rattle.dm_table.specs.Lines.{linear_at, striped_at, bare_at, target_at, line_of}
@@ -112,16 +113,16 @@ crypt_faults = (refl, refl, refl, refl, refl, refl, refl, refl, refl, refl, refl
 -- a `verity` line
 abbrev verity_line : List ℕ → Bool → Line
 verity_line salt ignores =
-    line 0 8 (verity_target (record { «data» = codes "D"; hash = codes "/dev/mapper/t"; data_block = 4096; hash_block = 512; blocks = 1; start = 3; root = replicate 32 171; salt = salt; ignore_zero_blocks = ignores; corruption = Fail; in_tasklet = false; parity = None }))
+    line 0 8 (verity_target (record { «data» = codes "D"; hash = codes "/dev/mapper/t"; data_block = 4096; hash_block = 512; blocks = 1; start = 3; root = replicate 32 171; salt = salt; ignore_zero_blocks = ignores; corruption = Fail; in_tasklet = false; parity = None; signature_key = None }))
 
 abbrev verity_line_in : CorruptionMode → Bool → Line
 verity_line_in mode tasklet =
-    line 0 8 (verity_target (record { «data» = codes "D"; hash = codes "/dev/mapper/t"; data_block = 4096; hash_block = 512; blocks = 1; start = 3; root = replicate 32 171; salt = []; ignore_zero_blocks = false; corruption = mode; in_tasklet = tasklet; parity = None }))
+    line 0 8 (verity_target (record { «data» = codes "D"; hash = codes "/dev/mapper/t"; data_block = 4096; hash_block = 512; blocks = 1; start = 3; root = replicate 32 171; salt = []; ignore_zero_blocks = false; corruption = mode; in_tasklet = tasklet; parity = None; signature_key = None }))
 
 verity_tables : (table_of (codes "0 8 verity 01 D /dev/mapper/t 4096 0512 1 03 sha256 abABabABabABabABabABabABabABabABabABabABabABabABabABabABabABabAB -") ≡ Ok (verity_line [] false ∷ []))
     × (table_of (codes "0 8 verity 1 D /dev/mapper/t 4096 512 1 3 sha256 abABabABabABabABabABabABabABabABabABabABabABabABabABabABabABabAB 0a0B 0") ≡ Ok (verity_line (10 ∷ 11 ∷ []) false ∷ []))
     × (table_of (codes "0 8 verity 1 D /dev/mapper/t 4096 512 1 3 sha256 abABabABabABabABabABabABabABabABabABabABabABabABabABabABabABabAB - 01 ignore_zero_blocks") ≡ Ok (verity_line [] true ∷ []))
-unfolding table_of text_lines words number is_mapped_name is_device line_of target_at verity_at salt_at bytes_at decode_pairs options_at option_names known_at parity_at
+unfolding table_of text_lines words number is_mapped_name is_device line_of target_at verity_at salt_at bytes_at decode_pairs options_at option_names known_at parity_at signature_key_at
 verity_tables = (refl, refl, refl)
 
 -- the words that are for the kernel alone; at most one of them for corruption
@@ -130,20 +131,20 @@ verity_words : (table_of (codes "0 8 verity 1 D /dev/mapper/t 4096 512 1 3 sha25
     × (table_of (codes "0 8 verity 1 D /dev/mapper/t 4096 512 1 3 sha256 abABabABabABabABabABabABabABabABabABabABabABabABabABabABabABabAB - 2 restart_on_corruption panic_on_corruption") ≡ first_fault kinds.Option)
     × (table_of (codes "0 8 verity 1 D /dev/mapper/t 4096 512 1 3 sha256 abABabABabABabABabABabABabABabABabABabABabABabABabABabABabABabAB - 1 ignore_corruption") ≡ first_fault kinds.Option)
     × (table_of (codes "0 8 verity 1 D /dev/mapper/t 4096 512 1 3 sha256 abABabABabABabABabABabABabABabABabABabABabABabABabABabABabABabAB - 1 check_at_most_once") ≡ first_fault kinds.Option)
-unfolding table_of text_lines words number is_mapped_name is_device line_of target_at verity_at salt_at bytes_at decode_pairs options_at option_names known_at option_name parity_at
+unfolding table_of text_lines words number is_mapped_name is_device line_of target_at verity_at salt_at bytes_at decode_pairs options_at option_names known_at option_name parity_at signature_key_at
 verity_words = (refl, refl, refl, refl, refl)
 
 -- parity: four words with values, in any order
 abbrev verity_line_with : ℕ → ℕ → ℕ → Line
 verity_line_with roots blocks first =
-    line 0 8 (verity_target (record { «data» = codes "D"; hash = codes "/dev/mapper/t"; data_block = 4096; hash_block = 512; blocks = 1; start = 3; root = replicate 32 171; salt = []; ignore_zero_blocks = true; corruption = Fail; in_tasklet = false; parity = Some (record { device = codes "fec_start"; roots = roots; blocks = blocks; start = first }) }))
+    line 0 8 (verity_target (record { «data» = codes "D"; hash = codes "/dev/mapper/t"; data_block = 4096; hash_block = 512; blocks = 1; start = 3; root = replicate 32 171; salt = []; ignore_zero_blocks = true; corruption = Fail; in_tasklet = false; parity = Some (record { device = codes "fec_start"; roots = roots; blocks = blocks; start = first }); signature_key = None }))
 
 abbrev verity_front : List ℕ
 verity_front = codes "0 8 verity 1 D /dev/mapper/t 4096 512 1 3 sha256 abABabABabABabABabABabABabABabABabABabABabABabABabABabABabABabAB - "
 
 parity_tables : (table_of (verity_front ++ codes "9 use_fec_from_device fec_start fec_roots 02 fec_blocks 7 fec_start 0 ignore_zero_blocks") ≡ Ok (verity_line_with 2 7 0 ∷ []))
     × (table_of (verity_front ++ codes "9 fec_start 5 ignore_zero_blocks fec_blocks 0 fec_roots 24 use_fec_from_device fec_start") ≡ Ok (verity_line_with 24 0 5 ∷ []))
-unfolding table_of text_lines words number is_mapped_name is_device line_of target_at verity_at salt_at bytes_at decode_pairs options_at option_names known_at option_name parity_at fec_at value_of
+unfolding table_of text_lines words number is_mapped_name is_device line_of target_at verity_at salt_at bytes_at decode_pairs options_at option_names known_at option_name parity_at signature_key_at fec_at value_of
 parity_tables = (refl, refl)
 
 parity_faults : (table_of (verity_front ++ codes "8 use_fec_from_device P fec_roots 2 fec_blocks 7 fec_start") ≡ first_fault kinds.ArgCount)
@@ -158,8 +159,22 @@ parity_faults : (table_of (verity_front ++ codes "8 use_fec_from_device P fec_ro
     × (table_of (verity_front ++ codes "8 use_fec_from_device P fec_roots 2 fec_blocks -7 fec_start 0") ≡ first_fault kinds.Number)
     × (table_of (verity_front ++ codes "8 use_fec_from_device P fec_roots 2 fec_blocks 7 fec_start x") ≡ first_fault kinds.Number)
     × (table_of (verity_front ++ codes "10 use_fec_from_device P fec_roots 2 fec_blocks 7 fec_start x restart_on_corruption panic_on_corruption") ≡ first_fault kinds.Option)
-unfolding table_of text_lines words number is_mapped_name is_device line_of target_at verity_at salt_at bytes_at decode_pairs options_at option_names known_at option_name parity_at fec_at value_of
+unfolding table_of text_lines words number is_mapped_name is_device line_of target_at verity_at salt_at bytes_at decode_pairs options_at option_names known_at option_name parity_at signature_key_at fec_at value_of
 parity_faults = (refl, refl, refl, refl, refl, refl, refl, refl, refl, refl, refl, refl)
+
+-- a key description, also one that equals an option
+abbrev verity_line_signed : List ℕ → Line
+verity_line_signed key =
+    line 0 8 (verity_target (record { «data» = codes "D"; hash = codes "/dev/mapper/t"; data_block = 4096; hash_block = 512; blocks = 1; start = 3; root = replicate 32 171; salt = []; ignore_zero_blocks = false; corruption = Panic; in_tasklet = false; parity = None; signature_key = Some key }))
+
+signature_tables : (table_of (verity_front ++ codes "3 root_hash_sig_key_desc verity:vendor panic_on_corruption") ≡ Ok (verity_line_signed (codes "verity:vendor") ∷ []))
+    × (table_of (verity_front ++ codes "3 panic_on_corruption root_hash_sig_key_desc root_hash_sig_key_desc") ≡ Ok (verity_line_signed (codes "root_hash_sig_key_desc") ∷ []))
+    × (table_of (verity_front ++ codes "2 root_hash_sig_key_desc a,b") ≡ first_fault kinds.Option)
+    × (table_of (verity_front ++ codes "1 root_hash_sig_key_desc") ≡ first_fault kinds.Option)
+    × (table_of (verity_front ++ codes "4 root_hash_sig_key_desc k root_hash_sig_key_desc k") ≡ first_fault kinds.Option)
+    × (table_of (verity_front ++ codes "4 root_hash_sig_key_desc a,b fec_start x") ≡ first_fault kinds.Option)
+unfolding table_of text_lines words number is_mapped_name is_device line_of target_at verity_at salt_at bytes_at decode_pairs options_at option_names known_at option_name parity_at fec_at value_of signature_key_at description_at
+signature_tables = (refl, refl, refl, refl, refl, refl)
 
 -- a `verity` line at each fault, with faults after it
 verity_faults : (table_of (codes "0 8 verity 2 a,b a,b x x x x x x") ≡ first_fault kinds.ArgCount)
@@ -176,5 +191,5 @@ verity_faults : (table_of (codes "0 8 verity 2 a,b a,b x x x x x x") ≡ first_f
     × (table_of (codes "0 8 verity 1 D t 4096 512 1 3 sha256 abABabABabABabABabABabABabABabABabABabABabABabABabABabABabABabAB - x") ≡ first_fault kinds.Number)
     × (table_of (codes "0 8 verity 1 D t 4096 512 1 3 sha256 abABabABabABabABabABabABabABabABabABabABabABabABabABabABabABabAB - 1") ≡ first_fault kinds.ArgCount)
     × (table_of (codes "0 8 verity 1 D t 4096 512 1 3 sha256 abABabABabABabABabABabABabABabABabABabABabABabABabABabABabABabAB - 1 x") ≡ first_fault kinds.Option)
-unfolding table_of text_lines words number is_mapped_name is_device line_of target_at verity_at salt_at bytes_at decode_pairs options_at option_names known_at parity_at
+unfolding table_of text_lines words number is_mapped_name is_device line_of target_at verity_at salt_at bytes_at decode_pairs options_at option_names known_at parity_at signature_key_at
 verity_faults = (refl, refl, refl, refl, refl, refl, refl, refl, refl, refl, refl, refl, refl, refl)

@@ -6,7 +6,9 @@ pub mod Reading
 pub mod Arguments
 pub mod Options
 pub mod Crypt
+pub mod ValuedOptions
 pub mod Parity
+pub mod SignatureKey
 pub mod Verity
 pub mod Unstriped
 pub mod TargetTypes

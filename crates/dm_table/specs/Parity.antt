@@ -1,5 +1,5 @@
 -- The parity of a `verity` line, as documented on the kernel's dm-verity page.
-use Rattle.std.specs.Prelude.{ℕ, ◌^◌, ◌<◌, ◌≤◌, Bool, false, ◌&&◌, nat_le, IsTrue, if◌then◌else◌, List, [], ◌∷◌, codes, decimal, Option, Some, None, Ok, Err}
+use Rattle.std.specs.Prelude.{ℕ, ◌^◌, ◌<◌, ◌≤◌, Bool, ◌&&◌, nat_le, IsTrue, if◌then◌else◌, List, [], ◌∷◌, decimal, Option, Some, None, Ok, Err}
 use Rattle.std.specs.List.{list_any}
 use Rattle.dm_table.specs.declared.parity.Parity.{Parity}
 use Rattle.dm_table.specs.declared.fault.TextKind.TheVariants as kinds
@@ -7,27 +7,8 @@ use Rattle.dm_table.specs.Words.{Word}
 use Rattle.dm_table.specs.Names.{is_device}
 use Rattle.dm_table.specs.Reading.{Read, ◌>>=◌}
 use Rattle.dm_table.specs.Arguments.{device_at, number_at}
-use Rattle.dm_table.specs.Options.{is_one_of, value_of}
-
--- the options of parity; each has a value
-abbrev pub use_fec_from_device : Word
-use_fec_from_device = codes "use_fec_from_device"
-
-abbrev pub fec_roots : Word
-fec_roots = codes "fec_roots"
-
-abbrev pub fec_blocks : Word
-fec_blocks = codes "fec_blocks"
-
-abbrev pub fec_start : Word
-fec_start = codes "fec_start"
-
-abbrev pub parity_options : List Word
-parity_options = use_fec_from_device ∷ fec_roots ∷ fec_blocks ∷ fec_start ∷ []
-
--- the value of an option of parity
-abbrev pub parity_value : Word → List Word → Read Word
-parity_value name words = value_of parity_options name false words
+use Rattle.dm_table.specs.Options.{is_one_of}
+use Rattle.dm_table.specs.ValuedOptions.{fec_blocks, fec_roots, fec_start, option_value, parity_options, use_fec_from_device}
 
 -- 2 to 24 bytes of parity in a codeword
 abbrev pub roots_at : Word → Read ℕ
@@ -38,13 +19,13 @@ roots_at word = do
 -- `use_fec_from_device <dev> fec_roots <n> fec_blocks <n> fec_start <n>` in any order, among other options
 unfoldable pub fec_at : List Word → Read Parity
 fec_at words = do
-  name ← parity_value use_fec_from_device words
+  name ← option_value use_fec_from_device words
   device ← device_at name
-  count ← parity_value fec_roots words
+  count ← option_value fec_roots words
   roots ← roots_at count
-  covered ← parity_value fec_blocks words
+  covered ← option_value fec_blocks words
   blocks ← number_at covered
-  begin ← parity_value fec_start words
+  begin ← option_value fec_start words
   start ← number_at begin
   Ok (record { device = device; roots = roots; blocks = blocks; start = start })
 

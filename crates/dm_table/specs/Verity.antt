@@ -15,7 +15,9 @@ use Rattle.dm_table.specs.Names.{is_device}
 use Rattle.dm_table.specs.Reading.{Read, ◌>>=◌}
 use Rattle.dm_table.specs.Arguments.{device_at, number_at, bytes_at}
 use Rattle.dm_table.specs.Options.{is_one_of, options_at}
-use Rattle.dm_table.specs.Parity.{IsParityOfGrammar, parity_at, parity_options, parity_words}
+use Rattle.dm_table.specs.ValuedOptions.{valued_options}
+use Rattle.dm_table.specs.Parity.{IsParityOfGrammar, parity_at, parity_words}
+use Rattle.dm_table.specs.SignatureKey.{is_key_description, signature_key_at, signature_words}
 
 -- version 1 of the hash format
 abbrev pub version_at : Word → Read ℕ
@@ -54,7 +56,7 @@ abbrev pub try_verify_in_tasklet : Word
 try_verify_in_tasklet = codes "try_verify_in_tasklet"
 
 abbrev pub known_verity_options : List Word
-known_verity_options = ignore_zero_blocks ∷ restart_on_corruption ∷ panic_on_corruption ∷ try_verify_in_tasklet ∷ parity_options
+known_verity_options = ignore_zero_blocks ∷ restart_on_corruption ∷ panic_on_corruption ∷ try_verify_in_tasklet ∷ valued_options
 
 -- at most one of the words for corruption
 abbrev pub corruption_at : List Word → Read CorruptionMode
@@ -76,7 +78,7 @@ word_if false word = []
 
 -- the options of a line with their values, in the order in which the kernel prints them
 abbrev pub verity_options : Verity → List Word
-verity_options verity = corruption_words verity.corruption ++ word_if verity.ignore_zero_blocks ignore_zero_blocks ++ word_if verity.in_tasklet try_verify_in_tasklet ++ parity_words verity.parity
+verity_options verity = corruption_words verity.corruption ++ word_if verity.ignore_zero_blocks ignore_zero_blocks ++ word_if verity.in_tasklet try_verify_in_tasklet ++ parity_words verity.parity ++ signature_words verity.signature_key
 
 -- `<version> <dev> <hash_dev> <data_block_size> <hash_block_size> <num_data_blocks> <hash_start_block> <algorithm> <digest> <salt> [<#opt_params> <opt_params>]`
 unfoldable pub verity_at : List Word → Read Verity
@@ -91,10 +93,11 @@ verity_at (version ∷ dev ∷ hash_dev ∷ data_size ∷ hash_size ∷ count �
   known ← algorithm_at algorithm
   root ← digest_at digest
   salt ← salt_at digits
-  options ← options_at known_verity_options parity_options params
+  options ← options_at known_verity_options valued_options params
   corruption ← corruption_at options
   parity ← parity_at options (drop 1 params)
-  Ok (record { «data» = below; hash = hash; data_block = data_block; hash_block = hash_block; blocks = blocks; start = start; root = root; salt = salt; ignore_zero_blocks = is_one_of ignore_zero_blocks options; corruption = corruption; in_tasklet = is_one_of try_verify_in_tasklet options; parity = parity })
+  key ← signature_key_at options (drop 1 params)
+  Ok (record { «data» = below; hash = hash; data_block = data_block; hash_block = hash_block; blocks = blocks; start = start; root = root; salt = salt; ignore_zero_blocks = is_one_of ignore_zero_blocks options; corruption = corruption; in_tasklet = is_one_of try_verify_in_tasklet options; parity = parity; signature_key = key })
 verity_at words = Err kinds.ArgCount
 
 -- two device arguments
@@ -109,7 +112,7 @@ pub record AreVerityBlocks (verity : Verity) : Type 0 where
   pub blocks : verity.blocks < 2 ^ 64
   pub start : verity.start < 2 ^ 64
 
--- a root hash of 32 bytes, a salt of at most 256, and parity if the line has some
+-- a root hash of 32 bytes, a salt of at most 256, and parity and a key description if the line has them
 pub record IsVerityOfGrammar (verity : Verity) : Type 0 where
   pub devices : AreVerityDevices verity
   pub places : AreVerityBlocks verity
@@ -118,3 +121,4 @@ pub record IsVerityOfGrammar (verity : Verity) : Type 0 where
   pub salt_size : length verity.salt ≤ 256
   pub salt_bytes : IsBytes verity.salt
   pub parity : IfSome verity.parity IsParityOfGrammar
+  pub signature_key : IfSome verity.signature_key (λ key. IsTrue (is_key_description key))

@@ -14,7 +14,7 @@ mod verity;
 
 pub use crate::crypt::{Crypt, Key};
 pub use crate::fault::{ParseFault, TextFault, TextKind};
-pub use crate::name::{is_device, is_mapped_name};
+pub use crate::name::{is_device, is_key_description, is_mapped_name};
 pub use crate::options::{Options, is_kept};
 pub use crate::parity::Parity;
 pub use crate::stack::{Entry, StackText};

@@ -1,6 +1,7 @@
 //! Names of mapped devices, and device arguments.
 ghost use Rattle.std.specs.Prelude.{◌≡◌, ◌&&◌, nat_le, length};
 ghost use Rattle.std.specs.List.{list_all};
+ghost use Rattle.dm_table.specs.SignatureKey.{is_key_description};
 ghost use Rattle.dm_table.specs.Names.{is_device, is_leaf_byte, is_mapped_byte, is_mapped_name, is_name_of};
 
 const MAPPER: &[u8; 12] = b"/dev/mapper/";
@@ -24,6 +25,15 @@ pub fn is_device(word: &[u8]) -> bool
     } else {
         is_leaf_name(word)
     }
+}
+
+/// Returns whether the word is the description of a key: 1 to 255 bytes other than comma, semicolon and backslash.
+///
+/// All bytes must be printing ASCII characters.
+pub fn is_key_description(word: &[u8]) -> bool
+    ensures { result ≡ is_key_description word.now }
+{
+    is_leaf_name(word)
 }
 
 fn is_leaf_name(word: &[u8]) -> bool

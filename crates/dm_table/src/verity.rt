@@ -47,6 +47,9 @@ pub struct Verity {
     pub in_tasklet: bool,
     /// The parity, if the line has some.
     pub parity: Option<Parity>,
+    /// `root_hash_sig_key_desc`: the description of the key in the kernel's keyring that holds the signature of the root hash.
+    /// No signature is checked here. It changes no byte that is read.
+    pub signature_key: Option<Name>,
 }
 
 impl Verity {
@@ -63,6 +66,10 @@ impl Verity {
             Some(parity) => Some(parity.try_clone(alloc)?),
             None => None,
         };
+        let signature_key = match &self.signature_key {
+            Some(key) => Some(Name::new(alloc, key.as_slice())?),
+            None => None,
+        };
         Ok(Verity {
             data,
             hash,
@@ -76,6 +83,7 @@ impl Verity {
             corruption: self.corruption,
             in_tasklet: self.in_tasklet,
             parity,
+            signature_key,
         })
     }
 }

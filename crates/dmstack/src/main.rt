@@ -2,11 +2,13 @@
 #![tactic(auto)]
 
 mod journal;
+mod lines;
 mod output;
 mod system;
 
 use image_files::{FileImages, SystemCalls};
 use journal::is_journal;
+use lines::Lines;
 use output::Output;
 use program_io::Counted;
 use stack_commands::{CommandFault, command, end, writes_data};
@@ -22,11 +24,13 @@ fn main(rt: HostRuntime) -> ExitCode {
     let _input = File::open(&rt, "/");
     let _output = File::open(&rt, "/");
     let _errors = File::open(&rt, "/");
-    let mut errors = Counted::new(rt.stderr());
-    let Ok(buffered) = BufWriter::new(rt.alloc(), Output::new(io::writer(&rt))) else {
-        let mut writer = Counted::new(io::writer(&rt));
-        return ExitCode::from(end_unread(&rt, &mut writer, &mut errors, CommandFault::NoMemory));
+    let Ok(lines) = Lines::new(rt.alloc(), rt.stderr(), is_service(&rt)) else {
+        return end_without_memory(&rt, io::writer(&rt), rt.stderr());
     };
+    let Ok(buffered) = BufWriter::new(rt.alloc(), Output::new(io::writer(&rt))) else {
+        return end_without_memory(&rt, io::writer(&rt), rt.stderr());
+    };
+    let mut errors = Counted::new(lines);
     let mut reader = Counted::new(rt.reader());
     let mut writer = Counted::new(buffered);
     let mut images = FileImages::new(&rt, SystemCalls::new(&rt));
@@ -67,6 +71,17 @@ fn end_unread<R: Env, W: Write, E: Write>(
     } else {
         end(writer, fault)
     }
+}
+
+// Prints that memory ran out before the command.
+fn end_without_memory<R: Env, W: Write + Drop, E: Write + Drop>(
+    rt: &R,
+    writer: W,
+    errors: E,
+) -> ExitCode {
+    let mut writer = Counted::new(writer);
+    let mut errors = Counted::new(errors);
+    ExitCode::from(end_unread(rt, &mut writer, &mut errors, CommandFault::NoMemory))
 }
 
 // The first argument, if it has at most four bytes, as the names of `cat` and `nbd` have.

@@ -1,3 +1,4 @@
 pub mod Kinds
 pub mod Blocks
 pub mod Rules
+pub mod Signatures

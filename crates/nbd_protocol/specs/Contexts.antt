@@ -1,6 +1,7 @@
 -- Metadata contexts: the queries of a client, and the replies (the protocol's document, "Metadata querying",
 -- NBD_OPT_LIST_META_CONTEXT and NBD_OPT_SET_META_CONTEXT).
-use Rattle.std.specs.Prelude.{ℕ, zero, suc, ◌+◌, ◌==◌, ◌&&◌, ◌||◌, not, nat_le, Bool, true, false, List, [], ◌++◌, length, take, drop, codes, Option, Some, None, if◌then◌else◌}
+use Rattle.std.specs.Prelude.{ℕ, zero, suc, ◌+◌, ◌==◌, ◌&&◌, ◌||◌, not, nat_le, nat_lt, Bool, true, false, List, [], ◌++◌, length, take, drop, codes, Option, Some, None, if◌then◌else◌}
+use Rattle.std.specs.List.{position}
 use Rattle.std.specs.Str.{bytes_eq}
 use Rattle.nbd_protocol.specs.Numbers.{big_endian32, bytes32}
 use Rattle.nbd_protocol.specs.Exports.{ExportRecord, asked, export_records}
@@ -40,6 +41,18 @@ context_namespace = codes "base:"
 abbrev pub names_context : Bool → List ℕ → Bool
 names_context listing query = bytes_eq query context_name || (listing && bytes_eq query context_namespace)
 
+-- the first colon of a query, which is 58 and ends its namespace
+abbrev pub namespace_end : List ℕ → Option ℕ
+namespace_end query = position (λ byte. byte == 58) query
+
+-- the namespace has at least one byte
+abbrev pub ends_namespace : Option ℕ → Bool
+ends_namespace (Some end) = nat_lt 0 end
+ends_namespace None = false
+
+abbrev pub has_namespace : List ℕ → Bool
+has_namespace query = ends_namespace (namespace_end query)
+
 -- a LIST without queries names every context
 abbrev pub is_of_all : Bool → ℕ → Bool
 is_of_all listing count = listing && (count == 0)
@@ -48,10 +61,13 @@ is_of_all listing count = listing && (count == 0)
 abbrev pub named_at_end : Bool → List ℕ → Option Bool
 named_at_end named rest = if length rest == 0 then Some named else None
 
--- whether the context was named, or one of n queries names it; none if the lengths don't add up
+-- whether the context was named, or one of n queries names it; none if the lengths don't add up, or a query has no namespace
 unfoldable pub queried : Bool → Bool → ℕ → List ℕ → Option Bool
 queried listing named zero rest = named_at_end named rest
-queried listing named (suc n) rest = if not (is_string rest) then None else queried listing (named || names_context listing (string_in rest)) n (behind_string rest)
+queried listing named (suc n) rest =
+    if not (is_string rest) then None
+    else if not (has_namespace (string_in rest)) then None
+    else queried listing (named || names_context listing (string_in rest)) n (behind_string rest)
 
 -- whether the queries name the context; the bytes are the number of queries, then the queries
 abbrev pub wanted_of : Bool → List ℕ → Option Bool

@@ -1,5 +1,5 @@
 -- An export: a mapped device as a range of bytes.
-use Rattle.std.specs.Prelude.{◌≡◌, ◌⊎◌, ◌<◌, ◌≤◌, ◌&&◌, ◌==◌, not, ℕ, ◌+◌, ◌*◌, ◌^◌, All, Bool, false, true, List, [], get_or, length, map, position, Option, Some, None, if◌then◌else◌}
+use Rattle.std.specs.Prelude.{◌≡◌, ◌⊎◌, ◌<◌, nat_lt, ◌≤◌, ◌&&◌, ◌==◌, not, ℕ, ◌+◌, ◌*◌, ◌^◌, All, Bool, false, true, List, [], get_or, length, map, position, Option, Some, None, if◌then◌else◌}
 use Rattle.std.specs.List.{list_any}
 use Rattle.std.specs.Str.{bytes_eq}
 use Rattle.dm_table.specs.declared.table.Line.{Line}
@@ -71,9 +71,9 @@ export_at es place = get_or es place no_export
 abbrev pub export_place : List ExportRecord → List ℕ → Option ℕ
 export_place es name = position (λ e. bytes_eq e.name name) es
 
--- the index of the export that a client requests by name; if there is only one export, the empty name means it too
+-- the index of the export that a client requests by name; the empty name means the first one
 unfoldable pub asked : List ExportRecord → List ℕ → Option ℕ
-asked es name = if (length name == 0) && (length es == 1) then Some 0 else export_place es name
+asked es name = if (length name == 0) && nat_lt 0 (length es) then Some 0 else export_place es name
 
 abbrev pub export_records : List Export → List ExportRecord
 export_records exports = map export_record exports

@@ -7,7 +7,7 @@ use Rattle.nbd_protocol.specs.Exports.{ExportRecord}
 use Rattle.nbd_protocol.specs.declared.phase.Agreement.{Agreement}
 use Rattle.nbd_protocol.specs.declared.header.Header.{Header}
 use Rattle.nbd_protocol.specs.declared.header.Command.{Command}
-use Rattle.nbd_protocol.specs.declared.header.Command.TheVariants.{Read, Write, Zero, Hint, Flush, Status}
+use Rattle.nbd_protocol.specs.declared.header.Command.TheVariants.{Read, Write, Zero, Hint, Cache, Flush, Status}
 use Rattle.nbd_protocol.specs.declared.request_error.RequestError.{RequestError}
 use Rattle.nbd_protocol.specs.declared.request_error.RequestError.TheVariants.{NotPermitted, InputOutput, NoMemory, Invalid, NoSpace, NotSupported}
 
@@ -61,18 +61,17 @@ changing e h past command =
 abbrev pub write_command : ExportRecord → Header → Result Command RequestError
 write_command e h = if nat_lt most_length h.length then Err Invalid else changing e h NoSpace (Ok (Write h.offset h.length (has_fua h)))
 
--- A WRITE_ZEROES, which has no payload and therefore no greatest length. With FAST_ZERO it isn't supported, since it is never
--- faster than a WRITE.
+-- a WRITE_ZEROES, which has no payload and therefore no greatest length; FAST_ZERO, which is 16, requests that it is fast
 abbrev pub zero_command : ExportRecord → Header → Result Command RequestError
-zero_command e h = changing e h NoSpace (if nat_le 16 h.flags then Err NotSupported else Ok (Zero h.offset h.length (has_fua h)))
+zero_command e h = changing e h NoSpace (Ok (Zero h.offset h.length (has_fua h) (nat_le 16 h.flags)))
 
 -- a TRIM: the client no longer needs the bytes
 abbrev pub trim_command : ExportRecord → Header → Result Command RequestError
 trim_command e h = changing e h Invalid (Ok Hint)
 
--- a CACHE: the client will need the bytes soon
+-- a CACHE of bytes within the export, of any length: the client will need them soon
 abbrev pub cache_command : ExportRecord → Header → Result Command RequestError
-cache_command e h = if nat_lt e.size (h.offset + h.length) then Err Invalid else Ok Hint
+cache_command e h = if nat_lt e.size (h.offset + h.length) then Err Invalid else Ok (Cache h.offset h.length)
 
 -- a BLOCK_STATUS of at least one byte within the export; REQ_ONE requests one extent
 abbrev pub status_command : ExportRecord → Header → Result Command RequestError
@@ -85,8 +84,9 @@ status_command e h =
 abbrev pub IsWithin : ExportRecord → Command → Type 0
 IsWithin e (Read offset length) = (offset + length ≤ e.size) × (length ≤ most_length)
 IsWithin e (Write offset length fua) = (offset + length ≤ e.size) × IsTrue e.writable
-IsWithin e (Zero offset length fua) = (offset + length ≤ e.size) × IsTrue e.writable
+IsWithin e (Zero offset length fua fast) = (offset + length ≤ e.size) × IsTrue e.writable
 IsWithin e Hint = Unit {0}
+IsWithin e (Cache offset length) = offset + length ≤ e.size
 IsWithin e Flush = Unit {0}
 IsWithin e (Status offset length one) = (offset + length ≤ e.size) × (0 < length)
 

@@ -2,7 +2,7 @@
 ghost use Rattle.std.specs.Prelude.{◌≡◌, ◌≤◌, ◌||◌, length, true, IfSome};
 ghost use Rattle.std.specs.Str.{bytes_eq};
 ghost use Rattle.program_io.specs.Counted.{Writes};
-ghost use Rattle.nbd_protocol.specs.Contexts.{behind_string, context_name, context_namespace, context_number, context_of, contexts_by, named_at_end, is_of_all, is_string, named_context, names_context, queried, queries_by, selected_in, status_after, string_in, told_context, wanted_of, wants_context};
+ghost use Rattle.nbd_protocol.specs.Contexts.{behind_string, context_name, context_namespace, context_number, context_of, contexts_by, ends_namespace, has_namespace, named_at_end, namespace_end, is_of_all, is_string, named_context, names_context, queried, queries_by, selected_in, status_after, string_in, told_context, wanted_of, wants_context};
 ghost use Rattle.nbd_protocol.specs.Exports.{export_records};
 
 use crate::export::Export;
@@ -79,6 +79,30 @@ fn is_named(listing: bool, named: bool, query: &[u8]) -> bool
     named || names_context(listing, query)
 }
 
+// Returns the index of the first colon of a query, which ends its namespace.
+fn namespace_end(query: &[u8]) -> Option<usize>
+    ensures { result ≡ namespace_end query.now }
+{
+    query.iter().position(|byte| *byte == b':')
+}
+
+// Whether a colon at that index ends a namespace: one of at least one byte.
+fn ends_namespace(end: Option<usize>) -> bool
+    ensures { result ≡ ends_namespace end }
+{
+    match end {
+        Some(at) => at > 0,
+        None => false,
+    }
+}
+
+// Whether a query has a namespace, without which it is malformed.
+fn has_namespace(query: &[u8]) -> bool
+    ensures { result ≡ has_namespace query.now }
+{
+    ends_namespace(namespace_end(query))
+}
+
 // Returns whether the context was named. `None` if bytes are left after the last query.
 fn ended(named: bool, rest: &[u8]) -> Option<bool>
     ensures { result ≡ named_at_end named rest.now }
@@ -86,7 +110,7 @@ fn ended(named: bool, rest: &[u8]) -> Option<bool>
     if rest.is_empty() { Some(named) } else { None }
 }
 
-// Returns whether the context was named, or one of `count` queries names it. `None` if the lengths don't add up.
+// Returns whether the context was named, or one of `count` queries names it. `None` if they are malformed.
 fn queried(listing: bool, named: bool, count: u32, queries: &[u8]) -> Option<bool>
     ensures { result ≡ queried listing named count queries.now }
 {
@@ -97,7 +121,11 @@ fn queried(listing: bool, named: bool, count: u32, queries: &[u8]) -> Option<boo
         if !is_string(rest) {
             return None;
         }
-        found = is_named(listing, found, string_in(rest));
+        let query = string_in(rest);
+        if !has_namespace(query) {
+            return None;
+        }
+        found = is_named(listing, found, query);
         rest = behind_string(rest);
         left -= 1;
     }
@@ -111,7 +139,7 @@ fn is_of_all(listing: bool, count: u32) -> bool
     listing && count == 0
 }
 
-// Returns whether queries name the context; the bytes begin with the number of queries. `None` if the lengths don't add up.
+// Returns whether queries name the context; the bytes begin with the number of queries. `None` if they are malformed.
 fn wanted_of(listing: bool, bytes: &[u8]) -> Option<bool>
     requires { 4 ≤ length bytes.now }
     ensures { result ≡ wanted_of listing bytes.now }
@@ -120,7 +148,7 @@ fn wanted_of(listing: bool, bytes: &[u8]) -> Option<bool>
     queried(listing, is_of_all(listing, count), count, &bytes[4..])
 }
 
-// Returns whether the data of an option name the context. `None` if the lengths in the data don't add up.
+// Returns whether the data of an option name the context. `None` if the data are malformed.
 fn wants_context(listing: bool, content: &[u8]) -> Option<bool>
     ensures value { result ≡ wants_context listing content.now }
     ensures string { IfSome result (λ _. is_string content.now ≡ true) }
@@ -197,7 +225,7 @@ fn say_context_of<W: Write>(
     }
 }
 
-// Writes the replies to the data of a query. The reply is an error if the lengths in the data don't add up.
+// Writes the replies to the data of a query. The reply is an error if the data are malformed.
 fn say_wanted<W: Write>(
     writer: &mut Counted<W>,
     exports: &[Export<'_>],

@@ -11,14 +11,14 @@ fn place_of(exports: &[Export<'_>], name: &[u8]) -> Option<usize>
     exports.iter().position(|export| export.name == name)
 }
 
-/// Returns the index of the export that a client requests by name. If there is only one export, the empty name means it too.
-/// `None` if no export has the name.
+/// Returns the index of the export that a client requests by name; the empty name means the first one. `None` if no export has the
+/// name.
 #[tactic(auto, unfolding(crate::specs::Exports::asked))]
 pub fn asked(exports: &[Export<'_>], name: &[u8]) -> Option<usize>
     ensures value { result ≡ asked (export_records exports.now) name.now }
     ensures inside { IfSome result (λ place. place < length exports.now) }
 {
-    if name.is_empty() && exports.len() == 1 {
+    if name.is_empty() && exports.len() > 0 {
         return Some(0);
     }
     place_of(exports, name)

@@ -54,17 +54,38 @@ pub struct Header {
 #[derive(Clone, Copy, Debug, PartialEq, Eq)]
 pub enum Command {
     /// Reads `length` bytes from `offset` on.
-    Read { offset: u64, length: u32 },
+    Read {
+        offset: u64,
+        length: u32,
+    },
     /// Writes bytes. If `fua` is set, they are synced before the reply.
-    Write { offset: u64, length: u32, fua: bool },
-    /// Writes zeros. If `fua` is set, they are synced before the reply.
-    Zero { offset: u64, length: u32, fua: bool },
-    /// A TRIM or a CACHE: the service does nothing.
+    Write {
+        offset: u64,
+        length: u32,
+        fua: bool,
+    },
+    /// Writes zeros, only if that is faster than a WRITE if `fast` is set. If `fua` is set, they are synced before the reply.
+    Zero {
+        offset: u64,
+        length: u32,
+        fua: bool,
+        fast: bool,
+    },
+    /// A TRIM: the service does nothing.
     Hint,
+    /// Reads bytes ahead: the client will need them soon.
+    Cache {
+        offset: u64,
+        length: u32,
+    },
     /// Syncs all that was written.
     Flush,
     /// Reports the status of bytes, for the first extent only if `one` is set.
-    Status { offset: u64, length: u32, one: bool },
+    Status {
+        offset: u64,
+        length: u32,
+        one: bool,
+    },
 }
 
 impl Header {
@@ -89,8 +110,7 @@ impl Header {
         if self.kind == WRITE { self.length } else { 0 }
     }
 
-    /// Returns whether the reply consists of chunks: structured replies are agreed on, and the request is a READ or a
-    /// BLOCK_STATUS.
+    /// Returns whether the reply consists of chunks: that of a READ or BLOCK_STATUS does if structured replies are agreed on.
     pub fn is_chunked(self, agreed: Agreement) -> bool
         ensures { result ≡ is_chunked agreed self }
     {
@@ -138,7 +158,6 @@ impl Header {
     ///   offset or a length, a BLOCK_STATUS has no length, or a READ, CACHE, TRIM or BLOCK_STATUS ends past the export.
     /// - `NotPermitted` if a WRITE, WRITE_ZEROES or TRIM is for a read-only export.
     /// - `NoSpace` if a WRITE or a WRITE_ZEROES ends past the export.
-    /// - `NotSupported` if a WRITE_ZEROES must be faster than a WRITE (FAST_ZERO).
     #[tactic(auto, unfolding(crate::specs::Headers::command_of))]
     pub fn command(self, export: &Export<'_>, agreed: Agreement) -> Result<Command, RequestError>
         ensures value { result ≡ command_of (export_record export.now) agreed self }
@@ -189,23 +208,19 @@ impl Header {
         self.changing(export, RequestError::NoSpace, Ok(write))
     }
 
-    // A WRITE_ZEROES must be within the export, which must be writable. It is never faster than a WRITE.
+    // A WRITE_ZEROES must be within the export, which must be writable.
     fn zero_command(self, export: &Export<'_>) -> Result<Command, RequestError>
         ensures value { result ≡ zero_command (export_record export.now) self }
         ensures within { IfOk result (IsWithin (export_record export.now)) }
     {
         let Header { offset, length, .. } = self;
-        let fua = self.has_fua();
-        let zero = if self.flags >= FAST_ZERO {
-            Err(RequestError::NotSupported)
-        } else {
-            Ok(Command::Zero {
-                offset,
-                length,
-                fua,
-            })
+        let zero = Command::Zero {
+            offset,
+            length,
+            fua: self.has_fua(),
+            fast: self.flags >= FAST_ZERO,
         };
-        self.changing(export, RequestError::NoSpace, zero)
+        self.changing(export, RequestError::NoSpace, Ok(zero))
     }
 
     // A TRIM is a hint: it is checked, and does nothing.
@@ -216,7 +231,7 @@ impl Header {
         self.changing(export, RequestError::Invalid, Ok(Command::Hint))
     }
 
-    // A CACHE is a hint: it is checked, and does nothing.
+    // A CACHE must be within the export.
     fn cache_command(self, export: &Export<'_>) -> Result<Command, RequestError>
         ensures value { result ≡ cache_command (export_record export.now) self }
         ensures within { IfOk result (IsWithin (export_record export.now)) }
@@ -224,7 +239,8 @@ impl Header {
         if ends_past(export.size, self.offset, self.length) {
             return Err(RequestError::Invalid);
         }
-        Ok(Command::Hint)
+        let Header { offset, length, .. } = self;
+        Ok(Command::Cache { offset, length })
     }
 
     // A BLOCK_STATUS must be of at least one byte, within the export.
@@ -244,8 +260,7 @@ impl Header {
         })
     }
 
-    // Checks a request that changes bytes: the export must be writable. The error is `past` if the bytes end past the export. Then
-    // the result is `command`.
+    // Returns `command` if the export is writable and the bytes are within it. The error is `past` if they end past it.
     fn changing(
         self,
         export: &Export<'_>,

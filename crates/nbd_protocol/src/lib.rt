@@ -21,7 +21,7 @@ pub use chunk::{say_data, say_error, say_error_at, say_hole, say_none, say_statu
 pub use export::Export;
 pub use exports::export_at;
 pub use fault::ServiceFault;
-pub use header::{BLOCK_STATUS, Command, DISCONNECT, Header};
+pub use header::{BLOCK_STATUS, Command, DISCONNECT, Header, MOST_LENGTH};
 pub use intake::{fill, fill_part, skip, take_sectors};
 pub use numbers::{number32, put32, put64};
 pub use offers::{exports_of, names_of};

@@ -1,6 +1,6 @@
 -- Bytes of the export and the sectors that they touch.
-use Rattle.std.proofs.Common.{◌≡◌, ◌≢◌, ◌<◌, ◌≤◌, ℕ, ◌+◌, ◌-◌, ◌*◌, ◌/◌, ◌%◌, ◌^◌, ◌==◌, List, [], ◌∷◌, ◌++◌, length, take, drop, replicate, refl, ap, sym, ◌∙◌, subst, append-nil, append_assoc, arith, inl, inr, Result, Ok, Err}
-use Rattle.std.specs.Prelude.{◌&&◌, Bool, true, false, not, nat_le, nat_lt, IfErr, IfOk, OnOk, if◌then◌else◌}
+use Rattle.std.proofs.Common.{◌≡◌, ◌≢◌, ◌<◌, ℕ, ◌+◌, ◌-◌, ◌*◌, ◌/◌, ◌%◌, ◌^◌, ◌==◌, List, [], ◌∷◌, ◌++◌, length, take, drop, replicate, refl, ap, sym, ◌∙◌, subst, append-nil, append_assoc, arith, inl, inr, Result, Ok, Err}
+use Rattle.std.specs.Prelude.{◌&&◌, Bool, true, false, not, nat_le, nat_lt, IfErr, OnOk, if◌then◌else◌}
 use Rattle.std.proofs.lemmas.List.{length-drop, length-replicate, length-take, length-take-le, drop_all}
 use Rattle.std.proofs.Math.Seq.{take-append-add}
 use borrow.Rule.Slice.PartMut.{put_mid, post_of}
@@ -8,11 +8,11 @@ use Rattle.request_queue.specs.World.{World}
 use Rattle.nbd_protocol.specs.declared.phase.Agreement.{Agreement}
 use Rattle.nbd_protocol.specs.declared.header.Header.{Header}
 use Rattle.nbd_protocol.specs.declared.header.Command.{Command}
-use Rattle.nbd_protocol.specs.declared.header.Command.TheVariants.{Read, Write, Zero, Hint, Flush, Status}
+use Rattle.nbd_protocol.specs.declared.header.Command.TheVariants.{Read, Write, Zero, Hint, Cache, Flush, Status}
 use Rattle.nbd_protocol.specs.declared.request_error.RequestError.{RequestError}
 use Rattle.nbd_server.specs.declared.failure.Failure.{Failure}
 use Rattle.nbd_server.specs.declared.reply.Data.{Data}
-use Rattle.nbd_protocol.specs.declared.request_error.RequestError.TheVariants.{NotPermitted, Invalid, NoSpace, NotSupported}
+use Rattle.nbd_protocol.specs.declared.request_error.RequestError.TheVariants.{NotPermitted, Invalid, NoSpace}
 use Rattle.nbd_protocol.specs.Exports.{ExportRecord}
 use Rattle.nbd_protocol.specs.Headers.{cache_command, command_of, flush_command, has_fua, has_offered, payload_len, most_length, read_command, status_command, trim_command, write_command, zero_command}
 use Rattle.nbd_server.specs.Premises.{IsBare}
@@ -20,7 +20,8 @@ use Rattle.nbd_server.specs.Sectors.{IsStored, IsStoredAtOnce, FailsToPutAtOnce,
 use Rattle.nbd_server.specs.Failures.{write_failure}
 use Rattle.nbd_server.specs.Replies.{RequestOutcome}
 use Rattle.nbd_server.specs.Status.{touched}
-use Rattle.nbd_server.specs.Transmission.{FailsToReadEnds, Flushes, IsFramed, IsPartInside, IsPart, IsSendable, reply_data, ReadsExport, ReportsSpace, ReadsEnds, ServesRequest, ServesCommand, Settles, Stays, WritesAtOnce, WritesGiven, WritesByRuns, WritesAny, room_behind, no_bytes}
+use Rattle.nbd_server.specs.Reads.{ReadsExport}
+use Rattle.nbd_server.specs.Transmission.{FailsToReadEnds, Flushes, IsFramed, IsPart, reply_data, ReportsSpace, ReadsEnds, ServesRequest, ServesCommand, Settles, Stays, WritesAtOnce, WritesGiven, WritesByRuns, WritesAny, room_behind, no_bytes}
 use Rattle.nbd_server.specs.Zeros.{WritesInRuns}
 
 -- ---- what is around some bytes
@@ -75,9 +76,9 @@ module _ (offset length : ℕ) (fua : Bool) where
   flush-no-write true h = let clash : Ok Flush ≡ Ok (Write offset length fua) = h in cc
   flush-no-write false h = let clash : Err Invalid ≡ Ok (Write offset length fua) = h in cc
 
-  cache-no-write : (a : Bool) → (if a then Err Invalid else Ok Hint) ≡ Ok (Write offset length fua) → ⊥
-  cache-no-write true h = let clash : Err Invalid ≡ Ok (Write offset length fua) = h in cc
-  cache-no-write false h = let clash : Ok Hint ≡ Ok (Write offset length fua) = h in cc
+  cache-no-write : (a : Bool) (o l : ℕ) → (if a then Err Invalid else Ok (Cache o l)) ≡ Ok (Write offset length fua) → ⊥
+  cache-no-write true o l h = let clash : Err Invalid ≡ Ok (Write offset length fua) = h in cc
+  cache-no-write false o l h = let clash : Ok (Cache o l) ≡ Ok (Write offset length fua) = h in cc
 
   changing-write : (a b : Bool) (past : RequestError) (command : Result Command RequestError) → (if a then Err NotPermitted else if b then Err past else command) ≡ Ok (Write offset length fua) → command ≡ Ok (Write offset length fua)
   changing-write true b past command h = let clash : Err NotPermitted ≡ Ok (Write offset length fua) = h in cc
@@ -87,9 +88,8 @@ module _ (offset length : ℕ) (fua : Bool) where
   trim-no-write : (a b : Bool) → (if a then Err NotPermitted else if b then Err Invalid else Ok Hint) ≡ Ok (Write offset length fua) → ⊥
   trim-no-write a b h = let clash : Ok Hint ≡ Ok (Write offset length fua) = changing-write a b Invalid (Ok Hint) h in cc
 
-  zero-no-write : (a b d : Bool) (o l : ℕ) (f : Bool) → (if a then Err NotPermitted else if b then Err NoSpace else if d then Err NotSupported else Ok (Zero o l f)) ≡ Ok (Write offset length fua) → ⊥
-  zero-no-write a b true o l f h = let clash : Err NotSupported ≡ Ok (Write offset length fua) = changing-write a b NoSpace (Err NotSupported) h in cc
-  zero-no-write a b false o l f h = let clash : Ok (Zero o l f) ≡ Ok (Write offset length fua) = changing-write a b NoSpace (Ok (Zero o l f)) h in cc
+  zero-no-write : (a b d : Bool) (o l : ℕ) (f : Bool) → (if a then Err NotPermitted else if b then Err NoSpace else Ok (Zero o l f d)) ≡ Ok (Write offset length fua) → ⊥
+  zero-no-write a b d o l f h = let clash : Ok (Zero o l f d) ≡ Ok (Write offset length fua) = changing-write a b NoSpace (Ok (Zero o l f d)) h in cc
 
   status-no-write : (a b : Bool) (o l : ℕ) (one : Bool) → (if a then Err Invalid else if b then Err Invalid else Ok (Status o l one)) ≡ Ok (Write offset length fua) → ⊥
   status-no-write true b o l one h = let clash : Err Invalid ≡ Ok (Write offset length fua) = h in cc
@@ -130,7 +130,7 @@ module _ (offset length : ℕ) (fua : Bool) where
       (if h.kind == 3 then flush_command h else if h.kind == 4 then trim_command e h else if h.kind == 5 then cache_command e h else if h.kind == 6 then zero_command e h else last) h.length
       (read-no-write (nat_lt most_length h.length) past h.offset h.length)
       (others-no-write (h.kind == 3) (h.kind == 4) (h.kind == 5) (h.kind == 6) (flush_command h) (trim_command e h) (cache_command e h) (zero_command e h) last
-      (flush-no-write ((h.offset == 0) && (h.length == 0))) (trim-no-write (not e.writable) past) (cache-no-write past) (zero-no-write (not e.writable) past (nat_le 16 h.flags) h.offset h.length (has_fua h))
+      (flush-no-write ((h.offset == 0) && (h.length == 0))) (trim-no-write (not e.writable) past) (cache-no-write past h.offset h.length) (zero-no-write (not e.writable) past (nat_le 16 h.flags) h.offset h.length (has_fua h))
       (last-no-write ((h.kind == 7) && a.status) (status_command e h) (status-no-write (h.length == 0) past h.offset h.length (nat_le 8 h.flags))))
       (write-length (nat_lt most_length h.length) (not e.writable) past h.offset h.length (has_fua h)) is
 
@@ -155,6 +155,8 @@ bare-other command other = tt
 pub served-bare : (e : ExportRecord) (w w' : World) (command : Command) (payload : List ℕ) (outcome : RequestOutcome) → IsBare command
     → ServesCommand e w (Ok command) [] outcome w' → ServesCommand e w (Ok command) payload outcome w'
 served-bare e w w' (Write offset length fua) payload outcome bare p = absurd bare
+served-bare e w w' (Zero offset length fua false) payload outcome bare p = p
+served-bare e w w' (Zero offset length fua true) payload outcome bare p = p
 served-bare e w w' command payload outcome bare p = p
 
 -- ---- with FUA
@@ -203,11 +205,6 @@ module _ (e : ExportRecord) (w mid w' : World) (offset len : ℕ) (some : 0 < le
 
 -- ---- what can be sent
 
--- as many bytes as were asked for
-pub sendable : (len : ℕ) (outcome : Result Data Failure) → IsPartInside outcome → IfOk outcome (λ d. d.length ≡ len) → len ≤ most_length → IsSendable outcome
-sendable len (Ok d) inside size few = record { inside = inside; few = omega (arith, size, few) }
-sendable len (Err error) inside size few = tt
-
--- their chunk has a length that fits
+-- the chunk of what can be sent has a length that fits
 pub fits-chunk : (d : Data) → IsPart d → 8 + length (reply_data d) < 2 ^ 32
 fits-chunk d p = omega (arith, length-take d.length (drop d.start d.bytes.items), p.few)

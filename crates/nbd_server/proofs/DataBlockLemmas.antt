@@ -20,8 +20,9 @@ use Rattle.stack_lines.specs.declared.source.CryptPart.{CryptPart}
 use Rattle.stack_lines.specs.declared.source.Source.{Source}
 use Rattle.stack_lines.specs.declared.source.VerityPart.{VerityPart}
 use Rattle.stack_lines.specs.declared.source.Source.TheVariants.{Below, Units, UnitPart, Zeros, Fails, Block, Blocks}
-use Rattle.stack_lines.specs.Sources.{ComeFrom, IsPartOf, IsServed}
-use Rattle.nbd_server.specs.DataBlocks.{line_block, sector_block, source_block, unit_block}
+use Rattle.stack_lines.specs.Sources.{ComeFrom, IsPartOf, IsPlacedAt, IsServed}
+use Rattle.nbd_server.specs.DataBlocks.{line_block, part_block, sector_block, source_block, unit_block}
+use Rattle.nbd_server.specs.declared.data_block.DataBlock.{DataBlock}
 
 -- ---- by the line that has a sector
 
@@ -34,7 +35,7 @@ line_block-asks at at' d l (Crypt line) s all = said_or-same None at at' (Crypt 
 line_block-asks at at' d l (Verity line) s all = refl
 line_block-asks at at' d l (Unstriped line) s all = said_or-same None at at' (Unstriped line) s all
 
-abbrev block_by_name : Configuration → List ℕ → ℕ → Option ℕ
+abbrev block_by_name : Configuration → List ℕ → ℕ → Option DataBlock
 block_by_name c = by_name c (λ t. None) (sector_block c)
 
 pub block-leaf : (c : Configuration) (i s : ℕ) → sector_block c (leaf i) s ≡ None
@@ -48,7 +49,7 @@ block-line c d l s j line loaded found start inside = by_sector-line c None (λ 
 -- ---- by the run that has it
 
 -- a line that hands on the sector beneath
-hands-block : (at : List ℕ → ℕ → Option ℕ) (d l : ℕ) (target : Target) (s : ℕ) (p : List ℕ × ℕ) → HandsOn target → beneath target s ≡ Some p → line_block at d l target s ≡ at p.0 p.1
+hands-block : (at : List ℕ → ℕ → Option DataBlock) (d l : ℕ) (target : Target) (s : ℕ) (p : List ℕ × ℕ) → HandsOn target → beneath target s ≡ Some p → line_block at d l target s ≡ at p.0 p.1
 hands-block at d l (Linear base) s p h e = ap (said_or None at) e
 hands-block at d l (Striped chunk bases) s p h e = ap (said_or None at) e
 hands-block at d l Zero s p h e = absurd h
@@ -57,20 +58,26 @@ hands-block at d l (Crypt line) s p h e = absurd h
 hands-block at d l (Verity line) s p h e = absurd h
 hands-block at d l (Unstriped line) s p h e = ap (said_or None at) e
 
+-- a data block of that line of a device
+abbrev numbered : ℕ → ℕ → ℕ → Option DataBlock
+numbered device line number = Some (record { device = device; line = line; number = number })
+
 module _ (c : Configuration) (d l w : ℕ) (target : Target) where
   unit-came : (u : CryptPart) → IsPartOf c target u → u.first ≡ w → line_block (block_by_name c) d l target (w + 0) ≡ unit_block c u
   unit-came u of first =
       let at : w + 0 ≡ u.first = omega (arith, first) in
       ap (λ (t : Target). line_block (block_by_name c) d l t (w + 0)) of.is
-      ∙ ap (λ (o : Option Lower). known {A = ℕ → Option ℕ} (λ t. None) (sector_block c) o (of.crypt.base.offset + (w + 0))) of.named
+      ∙ ap (λ (o : Option Lower). known {A = ℕ → Option DataBlock} (λ t. None) (sector_block c) o (of.crypt.base.offset + (w + 0))) of.named
       ∙ ap (λ (x : CryptUnits). sector_block c u.lower (x.offset + (w + 0))) (sym of.units)
       ∙ ap (λ (k : ℕ). sector_block c u.lower (u.units.offset + k)) at
 
-  verity-came : (x : VerityPart) → target ≡ Verity x.verity.now → x.first ≡ w → line_block (block_by_name c) d l target (w + 0) ≡ Some (x.first / block_sectors x.verity.now)
-  verity-came x is first =
+  verity-came : (x : VerityPart) → target ≡ Verity x.verity.now → IsPlacedAt d l x → x.first ≡ w → line_block (block_by_name c) d l target (w + 0) ≡ Some (part_block x)
+  verity-came x is placed first =
       let at : w + 0 ≡ x.first = omega (arith, first) in
       ap (λ (t : Target). line_block (block_by_name c) d l t (w + 0)) is
-      ∙ ap (λ (k : ℕ). Some (k / block_sectors x.verity.now)) at
+      ∙ ap (λ (k : ℕ). numbered d l (k / block_sectors x.verity.now)) at
+      ∙ ap (λ (k : ℕ). numbered k l (x.first / block_sectors x.verity.now)) (sym placed.0)
+      ∙ ap (λ (k : ℕ). numbered x.device.0 k (x.first / block_sectors x.verity.now)) (sym placed.1)
 
   come-block : (source : Source) → ComeFrom c (d, l) target w 1 source → line_block (block_by_name c) d l target (w + 0) ≡ source_block c source
   come-block (Below lower first) come =
@@ -78,14 +85,14 @@ module _ (c : Configuration) (d l w : ℕ) (target : Target) where
       let at : first + 0 ≡ first = omega arith in
       let some : 0 < 1 = omega arith in
       hands-block (block_by_name c) d l target (w + 0) (on.name, first + 0) come.0 (on.under 0 some)
-      ∙ ap (λ (o : Option Lower). known {A = ℕ → Option ℕ} (λ t. None) (sector_block c) o (first + 0)) on.is
+      ∙ ap (λ (o : Option Lower). known {A = ℕ → Option DataBlock} (λ t. None) (sector_block c) o (first + 0)) on.is
       ∙ ap (sector_block c lower) at
   come-block (Units u) come = unit-came u come.0 come.1
   come-block (UnitPart u) come = unit-came u come.0 come.1
   come-block Zeros come = ap (λ (t : Target). line_block (block_by_name c) d l t (w + 0)) come
   come-block Fails come = ap (λ (t : Target). line_block (block_by_name c) d l t (w + 0)) come
-  come-block (Block x) come = verity-came x come.0 come.2
-  come-block (Blocks x) come = verity-came x come.0 come.2
+  come-block (Block x) come = verity-came x come.0 come.1 come.2
+  come-block (Blocks x) come = verity-came x come.0 come.1 come.2
 
 pub served-block : (c : Configuration) (d s : ℕ) (source : Source) → IsLoaded c → IsServed c d s 1 source → source_block c source ≡ sector_block c (mapped d) s
 served-block c d s source loaded r =

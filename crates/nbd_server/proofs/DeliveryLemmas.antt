@@ -1,6 +1,6 @@
 -- A READ that is answered piece by piece.
-use Rattle.std.proofs.Common.{◌≡◌, ◌<◌, ◌≤◌, ℕ, ◌+◌, ◌-◌, ◌*◌, ◌/◌, ◌%◌, List, [], ◌++◌, drop, length, refl, take, ap, sym, ◌∙◌, subst, arith, inl, inr, Option, None, Result, Ok, Err}
-use Rattle.std.specs.Prelude.{◌⊎◌, ◌==◌, Bool, false, true, OnOk}
+use Rattle.std.proofs.Common.{◌≡◌, ◌<◌, ◌≤◌, ℕ, ◌+◌, ◌*◌, ◌/◌, ◌%◌, List, [], ◌++◌, drop, length, refl, take, ap, sym, ◌∙◌, subst, arith, inl, inr, Option, None, Result, Ok, Err}
+use Rattle.std.specs.Prelude.{◌==◌, Bool, false, true, OnOk}
 use Rattle.std.specs.Io.KnownBytes.{Appends, Keeps}
 use Rattle.std.proofs.KnownBytes.{Appends-kept, Appends-nil, Appends-trans}
 use Rattle.std.proofs.lemmas.List.{drop-append-le, length-drop, length-take-le, take-append-le}
@@ -12,13 +12,12 @@ use Rattle.request_queue.specs.World.{World}
 use Rattle.request_queue.proofs.lemmas.LedLemmas.{led-none, led-then}
 use Rattle.nbd_protocol.specs.Exports.{ExportRecord}
 use Rattle.nbd_server.specs.declared.failure.Failure.{Failure}
-use Rattle.nbd_server.specs.declared.first_faults.SectorFault.{SectorFault}
+use Rattle.nbd_server.specs.declared.known_faults.SectorFault.{SectorFault}
 use Rattle.nbd_server.specs.Failures.{failure_text, fault_of, reported_error}
-use Rattle.nbd_server.specs.Replies.{RequestOutcome}
-use Rattle.nbd_server.specs.Sectors.{IsFetched, FailsToFetch, EndsIn, HasNoBuffer}
+use Rattle.nbd_server.specs.Sectors.{IsFetched}
 use Rattle.nbd_server.specs.Status.{IsLineStatus, TouchZeros, touched}
 use Rattle.nbd_server.specs.declared.status.BlockStatus.{BlockStatus}
-use Rattle.nbd_server.specs.Transmission.{ReadsExport}
+use Rattle.nbd_server.specs.Reads.{ReadsExport}
 use Rattle.nbd_server.specs.Premises.{AreBytesOf, IsDeliveryRest}
 use Rattle.nbd_protocol.specs.Chunks.{error_at_chunk, hole_chunk}
 use Rattle.nbd_server.specs.Content.{TellsContent}
@@ -26,56 +25,38 @@ use Rattle.stack_rules.specs.Records.{Configuration}
 use Rattle.nbd_server.specs.Delivery.{AnswersPiece, BeginsWithZeros, Delivers, delivers_none, delivers_more, DeliversAs, DeliversPart, GoesOnReplying, IsDelivered, IsLost, AreNextBytes, IsReadPiece, IsStuck, SendsPiece, at_first, next_size, progress_after, progress_again}
 use Rattle.nbd_server.specs.declared.delivery.Delivery.{Delivery}
 use Rattle.nbd_server.specs.declared.progress.Progress.{Progress}
-use Rattle.nbd_server.proofs.ProgressLemmas.{again-done, again-smaller, left_of}
+use Rattle.nbd_server.proofs.PieceLemmas.{read-led, read-config, again-led, again-config, again-inside, again-less, sector-led, sector-config, read-again, sector-lost}
+use Rattle.nbd_server.proofs.ProgressLemmas.{left_of}
 use Rattle.nbd_server.proofs.ToldLemmas.{some-told}
-
--- ---- one read
-
-pub read-led : (e : ExportRecord) (w : World) (offset length : ℕ) (outcome : RequestOutcome) (w' : World) → ReadsExport e w offset length outcome w' → IsLed EachPart w w'
-read-led e w offset length (Ok content) w' p = p.1.led
-read-led e w offset length (Err error) w' p = p.led
-
-fails-config : (w : World) (d first count : ℕ) (error : Failure) (w' : World) → EndsIn w d first count error w' ⊎ HasNoBuffer w count error w' → w'.stack.config ≡ w.stack.config
-fails-config w d first count error w' (inl x) = x.read.config
-fails-config w d first count error w' (inr x) = ap (λ (v : World). v.stack.config) x.1
-
-pub fetch-config : (w : World) (d first count : ℕ) (error : Failure) (w' : World) → FailsToFetch w d first count error w' → w'.stack.config ≡ w.stack.config
-fetch-config w d first count error w' p = fails-config w d first count error w' p.cause
-
-pub read-config : (e : ExportRecord) (w : World) (offset length : ℕ) (outcome : RequestOutcome) (w' : World) → ReadsExport e w offset length outcome w' → w'.stack.config ≡ w.stack.config
-read-config e w offset length (Ok content) w' p = p.1.read.config
-read-config e w offset length (Err error) w' p = fetch-config w e.device (offset / 512) (touched offset length) error w' p
 
 -- ---- pieces
 
 module _ (e : ExportRecord) (d : Delivery) where
   goes-led : (p : Progress) (w : World) (chunk : List ℕ) (next : Progress) (w' : World) → GoesOnReplying e d p w chunk next w' → IsLed EachPart w w'
   goes-led p w chunk next w' (inl s) = read-led e w (d.offset + p.done) s.size (Ok s.content) w' s.reads
-  goes-led p w chunk next w' (inr (inl s)) = read-led e w (d.offset + p.done) s.size (Err s.error) w' s.reads
+  goes-led p w chunk next w' (inr (inl s)) = again-led e d p w next w' s.again
   goes-led p w chunk next w' (inr (inr s)) = subst (λ (v : World). IsLed EachPart w v) (sym s.same) (led-none EachPart w)
 
   pub goes-config : (p : Progress) (w : World) (chunk : List ℕ) (next : Progress) (w' : World) → GoesOnReplying e d p w chunk next w' → w'.stack.config ≡ w.stack.config
   goes-config p w chunk next w' (inl s) = read-config e w (d.offset + p.done) s.size (Ok s.content) w' s.reads
-  goes-config p w chunk next w' (inr (inl s)) = read-config e w (d.offset + p.done) s.size (Err s.error) w' s.reads
+  goes-config p w chunk next w' (inr (inl s)) = again-config e d p w next w' s.again
   goes-config p w chunk next w' (inr (inr s)) = ap (λ (v : World). v.stack.config) s.same
 
   lost-led : (p : Progress) (w : World) (chunk : List ℕ) (w' : World) → IsLost e d p w chunk w' → IsLed EachPart w w'
-  lost-led p w chunk w' s = read-led e w (d.offset + p.done) s.size (Err s.error) w' s.reads
+  lost-led p w chunk w' s = sector-led e d p w w' s.error s.sector
 
   lost-config : (p : Progress) (w : World) (chunk : List ℕ) (w' : World) → IsLost e d p w chunk w' → w'.stack.config ≡ w.stack.config
-  lost-config p w chunk w' s = read-config e w (d.offset + p.done) s.size (Err s.error) w' s.reads
+  lost-config p w chunk w' s = sector-config e d p w w' s.error s.sector
 
   -- a piece is after the one before it, and done or put off once
   pub goes-inside : (p : Progress) (w : World) (chunk : List ℕ) (next : Progress) (w' : World) → GoesOnReplying e d p w chunk next w' → next.done ≤ d.count
   goes-inside p w chunk next w' (inl s) = subst (λ (n : Progress). n.done ≤ d.count) (sym s.next_is) s.piece.next.bytes.inside
   goes-inside p w chunk next w' (inr (inr s)) = subst (λ (n : Progress). n.done ≤ d.count) (sym s.next_is) s.bytes.inside
-  goes-inside p w chunk next w' (inr (inl s)) =
-      subst (λ (n : Progress). n.done ≤ d.count) (sym s.next_is) (omega (arith, s.piece.next.bytes.inside, again-done p s.size (touched (d.offset + p.done) s.size)))
+  goes-inside p w chunk next w' (inr (inl s)) = again-inside e d p w next w' s.again
 
   pub goes-smaller : (p : Progress) (w : World) (chunk : List ℕ) (next : Progress) (w' : World) → GoesOnReplying e d p w chunk next w' → left_of d.count next < left_of d.count p
   goes-smaller p w chunk next w' (inl s) = subst (λ (n : Progress). left_of d.count n < left_of d.count p) (sym s.next_is) (omega (arith, s.piece.next.bytes.inside, s.piece.next.bytes.some))
-  goes-smaller p w chunk next w' (inr (inl s)) =
-      subst (λ (n : Progress). left_of d.count n < left_of d.count p) (sym s.next_is) (again-smaller d.count p s.size (touched (d.offset + p.done) s.size) s.piece.next.bytes.some s.several s.piece.next.small)
+  goes-smaller p w chunk next w' (inr (inl s)) = again-less e d p w next w' s.again
   goes-smaller p w chunk next w' (inr (inr s)) = subst (λ (n : Progress). left_of d.count n < left_of d.count p) (sym s.next_is) (omega (arith, s.bytes.inside, s.bytes.some))
 
 -- ---- what comes of a piece
@@ -161,18 +142,10 @@ module _ (e : ExportRecord) (d : Delivery) (p : Progress) (w w' : World) (size a
     piece-sent n is content reads a = (a.text, sent-goes n is content a.text reads a.holds, a.written)
 
     -- it wasn't, and lies in several sectors
-    pub piece-put_off : (error : Failure) → ReadsExport e w at size (Err error) w' → 1 < touched at size → new ≡ old → AnswersPiece e d p w w' old new (Ok (progress_again p size (touched at size)))
-    piece-put_off error reads several same = (
+    pub piece-put_off : (error : Failure) (next : Progress) → ReadsExport e w at size (Err error) w' → 1 < touched at size → next ≡ progress_again p size (touched at size) → new ≡ old → AnswersPiece e d p w w' old new (Ok next)
+    piece-put_off error next reads several is same = (
       [],
-      inr (inl (record {
-        size = size;
-        error = error;
-        piece = piece;
-        several = subst (λ (k : ℕ). 1 < touched k size) place several;
-        reads = subst (λ (k : ℕ). ReadsExport e w k size (Err error) w') place reads;
-        silent = refl;
-        next_is = ap (λ (k : ℕ). progress_again p size (touched k size)) place;
-      })),
+      inr (inl (record { other = piece.other; again = read-again e d p w w' size at place piece.next error reads next several is; silent = refl })),
       subst (λ (o : Option (List ℕ)). Appends old o []) (sym same) (Appends-nil old),
     )
 
@@ -180,11 +153,9 @@ module _ (e : ExportRecord) (d : Delivery) (p : Progress) (w w' : World) (size a
     pub piece-lost : (error : Failure) → ReadsExport e w at size (Err error) w' → touched at size ≤ 1 → (lost : IsLost e d p w (error_at_chunk d.cookie at (reported_error error) (failure_text error)) w') × (lost.error ≡ error)
     piece-lost error reads few = (
       record {
-        size = size;
         error = error;
-        piece = piece;
-        one = omega (arith, few, piece.next.bytes.some, place);
-        reads = subst (λ (k : ℕ). ReadsExport e w k size (Err error) w') place reads;
+        other = piece.other;
+        sector = sector-lost e d p w w' size at place piece.next error reads few;
         chunk_is = ap (λ (k : ℕ). error_at_chunk d.cookie k (reported_error error) (failure_text error)) place;
       },
       refl,

@@ -1,9 +1,9 @@
 -- Sectors that are read at once.
-use Rattle.std.proofs.Common.{◌≡◌, ◌<◌, ◌≤◌, ℕ, ◌+◌, ◌-◌, ◌*◌, ◌/◌, ◌%◌, ◌^◌, List, [], length, refl, ap, sym, ◌∙◌, subst, arith, inl, inr, Option, Some, Result, Ok, Err}
+use Rattle.std.proofs.Common.{◌≡◌, ◌<◌, ◌≤◌, ℕ, ◌+◌, ◌*◌, ◌/◌, ◌%◌, ◌^◌, List, [], length, refl, ap, ◌∙◌, subst, arith, inl, inr, Some, Result, Ok, Err}
 use Rattle.std.specs.Int.{div_ceil}
 use Rattle.std.specs.Str.{bytes_eq}
 use Rattle.std.proofs.lemmas.List.Quantifiers.{position-Some}
-use Rattle.std.specs.Prelude.{◌⊎◌, Bool, true, false, not, nat_le, if◌then◌else◌, nat_lt, ◌==◌}
+use Rattle.std.specs.Prelude.{Bool, true, false, not, nat_le, if◌then◌else◌, nat_lt, ◌==◌}
 use Rattle.allocation.specs.Refusal.{IsOutOfMemory}
 use Rattle.stack_rules.specs.Names.{device_named, mapped, size}
 use Rattle.stack_rules.specs.Records.{Configuration}
@@ -31,11 +31,10 @@ use Rattle.request_queue.proofs.lemmas.BytesLemmas.{bytes-at}
 use Rattle.request_queue.proofs.lemmas.KeptLemmas.{bytes-kept}
 use Rattle.request_queue.proofs.lemmas.LedLemmas.{led-none, led-one}
 use Rattle.nbd_server.specs.declared.failure.Failure.{Failure}
-use Rattle.nbd_server.specs.declared.failure.Failure.TheVariants.{Faulty, Full, Refused, Unsynced}
-use Rattle.nbd_server.specs.Failures.{failure_by, lost, lost_block, no_memory, read_failure}
-use Rattle.nbd_protocol.specs.Exports.{ExportRecord, IsExport}
-use Rattle.nbd_server.specs.Premises.{AreBytesOf, AreSectorsOf, IsLostInside}
-use Rattle.nbd_server.specs.Sectors.{EndsIn, FailsToFetch, HasNoBuffer, IsFetched}
+use Rattle.nbd_server.specs.Failures.{no_memory, read_failure}
+use Rattle.nbd_protocol.specs.Exports.{ExportRecord}
+use Rattle.nbd_server.specs.Premises.{AreBytesOf, AreSectorsOf}
+use Rattle.nbd_server.specs.Sectors.{FailsToFetch, IsFetched}
 use Rattle.nbd_server.specs.Status.{touched}
 use Rattle.nbd_server.specs.Transmission.{room_behind}
 
@@ -119,24 +118,6 @@ module _ (w w' : World) (d first count len : ℕ) (all : len ≡ count * 512) wh
 -- an allocation of the bytes was refused
 pub no-buffer : (w : World) (d first count : ℕ) → IsOutOfMemory (512 * count) → FailsToFetch w d first count no_memory w
 no-buffer w d first count refused = record { cause = inr (refl, refl, refused); led = led-none EachPart w }
-
--- ---- the sectors of a failure
-
-lost-by : (c : Configuration) (e : ExportRecord) (fault : IoFault) (piece : PieceFault) (block : Option ℕ) → IsExport c e → piece.first + piece.count ≤ size c (mapped e.device) → IsLostInside c e (failure_by fault (lost block piece))
-lost-by c e (io.Stack fault) piece block export inside = record { export = export; inside = inside }
-lost-by c e (io.Device leaf) piece block export inside = record { export = export; inside = inside }
-lost-by c e io.NoMemory piece block export inside = tt
-
--- they are sectors of the export, of which so many were read
-pub lost-inside : (w : World) (e : ExportRecord) (first count : ℕ) (error : Failure) (w' : World) → IsExport w.stack.config e → first + count ≤ size w.stack.config (mapped e.device) → EndsIn w e.device first count error w' ⊎ HasNoBuffer w count error w'
-    → IsLostInside w'.stack.config e error
-lost-inside w e first count error w' export inside (inl ended) =
-    let c = w.stack.config in
-    let of : IsPieceOf (range_at e.device first count) ended.piece = failed-inside (range_at e.device first count) w.stack ended.piece w'.stack ended.pieces in
-    let within : ended.piece.first + ended.piece.count ≤ size c (mapped e.device) = omega (arith, of.inside, inside) in
-    subst (λ (x : Configuration). IsLostInside x e error) (sym ended.read.config)
-    (subst (IsLostInside c e) (sym ended.told) (lost-by c e ended.piece.fault ended.piece (lost_block c e.device ended.piece) export within))
-lost-inside w e first count error w' export inside (inr none) = subst (IsLostInside w'.stack.config e) (sym none.0) (tt {0})
 
 -- ---- the sectors that bytes of the export touch
 

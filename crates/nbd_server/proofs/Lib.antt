@@ -3,6 +3,7 @@ pub mod ByteLemmas
 pub mod ContentLemmas
 pub mod ToldLemmas
 pub mod ProgressLemmas
+pub mod PieceLemmas
 pub mod DeliveryLemmas
 pub mod FetchLemmas
 pub mod FlushLemmas
@@ -16,7 +17,7 @@ pub mod MessageLemmas
 pub mod RunLemmas
 mod ExtentLemmas
 mod DataBlockLemmas
-pub mod LocatingLemmas
-pub mod LogLemmas
+pub mod UndividedLemmas
+pub mod PrefetchLemmas
 pub mod FaultLineLemmas
 pub mod ReportLemmas

@@ -1,6 +1,6 @@
 -- Messages as they are taken and answered.
 use Rattle.std.proofs.Common.{◌≡◌, ◌≢◌, ◌<◌, ◌≤◌, ℕ, ◌/◌, List, [], ◌∷◌, ◌++◌, length, refl, ap, sym, ◌∙◌, subst, append-nil, inl, inr, Option, Some, None, Result, Ok, Err, arith}
-use Rattle.std.specs.Prelude.{◌⊎◌, ◌||◌, ◌&&◌, All, Bool, true, false, is_some, not, take, codes, ◌==◌, if◌then◌else◌}
+use Rattle.std.specs.Prelude.{◌⊎◌, nat_lt, ◌||◌, ◌&&◌, All, Bool, true, false, is_some, not, take, codes, ◌==◌, if◌then◌else◌}
 use Rattle.std.specs.Io.KnownBytes.{Appends, Consumes, Keeps}
 use Rattle.std.specs.Str.{bytes_eq}
 use Rattle.std.proofs.KnownBytes.{Appends-nil, Appends-kept, Consumes-nil, Consumes-trans, Keeps-refl}
@@ -31,7 +31,7 @@ use Rattle.nbd_server.specs.Delivery.{DeliversAs, IsStuck, bytes_asked, delivery
 use Rattle.nbd_server.specs.declared.delivery.Delivery.{Delivery}
 use Rattle.nbd_server.specs.Service.{EndsReply, AnswersOption, BeginsRequest, IsTooLong, IsAnswered, IsExportUnnamed, IsNameUnread, GivesReply, TakesOption, TakesRequest, CountsMessage, EndsMessage, EndsTurn, request_fault, request_log}
 use Rattle.nbd_server.specs.Logs.{logged, outcome_fault}
-use Rattle.nbd_server.specs.declared.first_faults.SectorFault.{SectorFault}
+use Rattle.nbd_server.specs.declared.known_faults.SectorFault.{SectorFault}
 use Rattle.nbd_server.specs.declared.session_log.SessionLog.{SessionLog}
 
 -- what came of a message that the service ends in
@@ -123,7 +123,7 @@ names-other es option content h = let p = not-or (option == 1) (is_some (asked e
 -- a name that is longer than any export's
 pub long-name : (es : List ExportRecord) (name : List ℕ) → All HasShortName es → most_name < length name → asked es name ≡ None
 unfolding asked
-long-name es name short longer = go ((length name == 0) && (length es == 1)) refl
+long-name es name short longer = go ((length name == 0) && nat_lt 0 (length es)) refl
   where
     apart : (found : Option ℕ) → export_place es name ≡ found → found ≡ None
     apart None is = refl
@@ -132,8 +132,8 @@ long-name es name short longer = go ((length name == 0) && (length es == 1)) ref
         let equal = (bytes_eq-Decides (export_at es place).name name).0 p.1 in
         absurd (omega (arith, ap length equal, longer, All-get_or HasShortName es place no_export p.0 short))
 
-    go : (only : Bool) → ((length name == 0) && (length es == 1)) ≡ only → (if only then Some 0 else export_place es name) ≡ None
-    go true is = absurd (omega (arith, eqb-true (length name) 0 (both-left (length name == 0) (length es == 1) is), longer))
+    go : (is_first : Bool) → ((length name == 0) && nat_lt 0 (length es)) ≡ is_first → (if is_first then Some 0 else export_place es name) ≡ None
+    go true is = absurd (omega (arith, eqb-true (length name) 0 (both-left (length name == 0) (nat_lt 0 (length es)) is), longer))
     go false is = apart (export_place es name) refl
 
 -- what is replied to an option whose data are too long

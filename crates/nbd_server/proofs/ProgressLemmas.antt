@@ -4,7 +4,7 @@ use Rattle.std.proofs.lemmas.Bool.{cases_lt}
 use Rattle.nbd_server.specs.Delivery.{few_sectors, most_piece_sectors, next_most, progress_again}
 use Rattle.nbd_server.specs.declared.progress.Progress.{Progress}
 
--- a piece has 512 sectors at most
+-- a piece has 2,048 sectors at most
 pub most-next : (p : Progress) → (0 < next_most p) × (next_most p ≤ most_piece_sectors)
 most-next p = grind arith
 

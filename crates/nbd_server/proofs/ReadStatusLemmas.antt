@@ -13,10 +13,11 @@ use Rattle.nbd_server.specs.declared.failure.Failure.{Failure}
 use Rattle.nbd_server.specs.Replies.{RequestOutcome}
 use Rattle.nbd_server.specs.Content.{zero_block}
 use Rattle.nbd_server.specs.Status.{HasReadStatus, IsReadStatus, IsRun, IsStatus, TouchIgnoring, block_at, block_first, descriptor, is_zero_block}
-use Rattle.nbd_server.specs.Transmission.{ReadsExport, ReadsIgnoring, StaysOrReads, TellsExtents, TellsStatus, most_look}
+use Rattle.nbd_server.specs.Reads.{ReadsExport}
+use Rattle.nbd_server.specs.Transmission.{ReadsIgnoring, StaysOrReads, TellsExtents, TellsStatus, most_look}
 use Rattle.nbd_server.specs.declared.status.BlockStatus.{BlockStatus}
 use Rattle.nbd_server.proofs.ContentLemmas.{block-is, compared, zeros}
-use Rattle.nbd_server.proofs.DeliveryLemmas.{read-config, read-led}
+use Rattle.nbd_server.proofs.PieceLemmas.{read-config, read-led}
 use Rattle.nbd_server.proofs.StatusLemmas.{told-first, told-whole}
 
 -- ---- runs of bytes that were read

@@ -15,8 +15,8 @@ use Rattle.nbd_server.specs.Logs.{logged, met_faults}
 use Rattle.nbd_server.specs.Service.{EndsTurn, IsLastRequest, IsServedRequest, TakesMessage, message_faults, message_log, request_fault, request_faults, request_log}
 use Rattle.nbd_server.specs.Tallies.{moved_bytes}
 use Rattle.nbd_server.specs.declared.fault_log.FaultLog.{FaultLog}
-use Rattle.nbd_server.specs.declared.first_faults.FirstFault.{FirstFault}
-use Rattle.nbd_server.specs.declared.first_faults.SectorFault.{SectorFault}
+use Rattle.nbd_server.specs.declared.known_faults.ExportFault.{ExportFault}
+use Rattle.nbd_server.specs.declared.known_faults.SectorFault.{SectorFault}
 use Rattle.nbd_server.specs.declared.session_log.SessionLog.{SessionLog}
 use Rattle.nbd_server.proofs.FaultLineLemmas.{printed-both, printed-none}
 use Rattle.program_io.specs.Counted.{CountedRecord}
@@ -25,7 +25,7 @@ use Rattle.request_queue.specs.World.{World}
 
 -- ---- the fault of a message
 
-abbrev found_faults : Option FirstFault → List FirstFault
+abbrev found_faults : Option ExportFault → List ExportFault
 found_faults None = []
 found_faults (Some fault) = fault ∷ []
 
@@ -66,39 +66,39 @@ module _ {E : Type 0} (contents : E → Option (List ℕ)) (Shows : ℕ → Type
   reporting-none l at = record { met = []; faults_are = refl; shown = All-nil (λ (m : MetFault). Shows m.seconds); now_is = refl; printed = printed-none contents at }
 
   -- a further fault
-  reporting-next : (begin l l' : FaultLog) (old mid new : CountedRecord E) (faults : List FirstFault) (fault : FirstFault) → IsReporting contents Shows exports begin l old mid faults
+  reporting-next : (begin l l' : FaultLog) (old mid new : CountedRecord E) (faults : List ExportFault) (fault : ExportFault) → IsReporting contents Shows exports begin l old mid faults
       → TellsFault contents Shows exports l l' mid new fault → IsReporting contents Shows exports begin l' old new (faults ++ fault ∷ [])
   reporting-next begin l l' old mid new faults fault h t =
       let m = met_fault t.seconds fault in
       let P = λ (x : MetFault). Shows x.seconds in
       record {
         met = h.met ++ m ∷ [];
-        faults_are = ap (λ (f : List FirstFault). f ++ fault ∷ []) h.faults_are ∙ sym (map_push (λ (x : MetFault). x.fault) h.met m);
+        faults_are = ap (λ (f : List ExportFault). f ++ fault ∷ []) h.faults_are ∙ sym (map_push (λ (x : MetFault). x.fault) h.met m);
         shown = All-append P h.met (m ∷ []) h.shown (All-cons P m [] t.shown (All-nil P));
         now_is = t.log_is ∙ ap (next_log m) h.now_is ∙ sym (log-snoc begin h.met m);
         printed = subst (IsPrinted contents old new) (ap (λ (x : FaultLog). lines_of exports begin h.met ++ met_lines exports m x) h.now_is ∙ sym (lines-snoc exports begin h.met m))
             (printed-both contents old mid new (lines_of exports begin h.met) (met_lines exports m l) h.printed t.printed);
       }
 
-  pub reporting-same : (begin l l' : FaultLog) (old mid new : CountedRecord E) (faults : List FirstFault) → IsReporting contents Shows exports begin l old mid faults → (l' ≡ l) × (new ≡ mid)
+  pub reporting-same : (begin l l' : FaultLog) (old mid new : CountedRecord E) (faults : List ExportFault) → IsReporting contents Shows exports begin l old mid faults → (l' ≡ l) × (new ≡ mid)
       → IsReporting contents Shows exports begin l' old new faults
   reporting-same begin l l' old mid new faults h same = subst (λ (x : FaultLog). IsReporting contents Shows exports begin x old new faults) (sym same.0) (subst (λ (x : CountedRecord E). IsReporting contents Shows exports begin l old x faults) (sym same.1) h)
 
-  reporting-met : (begin l l' : FaultLog) (old mid new : CountedRecord E) (faults : List FirstFault) (met : Option FirstFault) → IsReporting contents Shows exports begin l old mid faults
+  reporting-met : (begin l l' : FaultLog) (old mid new : CountedRecord E) (faults : List ExportFault) (met : Option ExportFault) → IsReporting contents Shows exports begin l old mid faults
       → TellsMet contents Shows exports l l' mid new met → IsReporting contents Shows exports begin l' old new (faults ++ found_faults met)
   reporting-met begin l l' old mid new faults None h t = subst (IsReporting contents Shows exports begin l' old new) (sym (append-nil faults)) (reporting-same begin l l' old mid new faults h t)
   reporting-met begin l l' old mid new faults (Some fault) h t = reporting-next begin l l' old mid new faults fault h t
 
   -- a further message
   pub reporting-more : (begin l l' : FaultLog) (old mid new : CountedRecord E) (phase next : Phase) (w w' : World) (log log' : SessionLog) (before after : Streams) (t : EndsTurn exports phase w w' log log' before after (Ok (Some next)))
-      → TellsMet contents Shows exports l l' mid new (served_fault phase next log') → (faults : List FirstFault) → IsReporting contents Shows exports begin l old mid faults
+      → TellsMet contents Shows exports l l' mid new (served_fault phase next log') → (faults : List ExportFault) → IsReporting contents Shows exports begin l old mid faults
       → IsReporting contents Shows exports begin l' old new (faults ++ message_faults exports phase w t.taken t.written next w' t.holds.0)
   reporting-more begin l l' old mid new phase next w w' log log' before after t told faults h =
       let is = ap (λ (x : SessionLog). found_faults (served_fault phase next x)) t.holds.1 ∙ sym (message-met exports phase w t.taken t.written next w' t.holds.0 log) in
-      subst (λ (f : List FirstFault). IsReporting contents Shows exports begin l' old new (faults ++ f)) is (reporting-met begin l l' old mid new faults (served_fault phase next log') h told)
+      subst (λ (f : List ExportFault). IsReporting contents Shows exports begin l' old new (faults ++ f)) is (reporting-met begin l l' old mid new faults (served_fault phase next log') h told)
 
   -- and the last line
-  pub reported-all : (priorities : Bool) (l : FaultLog) (old mid new : CountedRecord E) (faults : List FirstFault) → IsReporting contents Shows exports (new_log priorities) l old mid faults
+  pub reported-all : (priorities : Bool) (l : FaultLog) (old mid new : CountedRecord E) (faults : List ExportFault) → IsReporting contents Shows exports (new_log priorities) l old mid faults
       → IsPrinted contents mid new (last_line l) → IsReported contents Shows priorities exports old new faults
   reported-all priorities l old mid new faults h last = record {
     met = h.met;

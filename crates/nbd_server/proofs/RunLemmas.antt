@@ -6,7 +6,7 @@ use Rattle.request_queue.specs.Runs.{IsLed}
 use Rattle.request_queue.specs.World.{World, sync}
 use Rattle.request_queue.proofs.lemmas.LedLemmas.{led-none, led-one, led-then}
 use Rattle.nbd_protocol.specs.declared.header.Command.{Command}
-use Rattle.nbd_protocol.specs.declared.header.Command.TheVariants.{Read, Write, Zero, Hint, Flush, Status}
+use Rattle.nbd_protocol.specs.declared.header.Command.TheVariants.{Read, Write, Zero, Hint, Cache, Flush, Status}
 use Rattle.nbd_protocol.specs.declared.header.Header.{Header}
 use Rattle.nbd_protocol.specs.declared.phase.Agreement.{Agreement}
 use Rattle.nbd_protocol.specs.declared.phase.Phase.{Phase}
@@ -16,12 +16,15 @@ use Rattle.nbd_server.specs.declared.failure.Failure.{Failure}
 use Rattle.nbd_protocol.specs.Exports.{ExportRecord, export_at}
 use Rattle.nbd_protocol.specs.Headers.{command_of, header_of}
 use Rattle.nbd_server.specs.Replies.{RequestOutcome}
-use Rattle.nbd_server.specs.Transmission.{FailsToReadEnds, Flushes, IsFramed, ReadsExport, ReportsSpace, ServesCommand, Settles, WritesAtOnce, WritesGiven, WritesPayload, WritesAny, room_behind}
+use Rattle.nbd_server.specs.Reads.{ReadsExport}
+use Rattle.nbd_server.specs.Transmission.{FailsToReadEnds, Flushes, IsFramed, ReportsSpace, ServesCommand, ServesZero, Settles, WritesAtOnce, WritesGiven, WritesPayload, WritesAny, room_behind}
 use Rattle.nbd_server.specs.Service.{BeginsMessage, Conversation, begins, goes_on, IsLastRequest, IsServedRequest, GivesReply, TakesMessage}
 use Rattle.nbd_server.specs.Delivery.{delivery_of}
 use Rattle.nbd_server.specs.declared.delivery.Delivery.{Delivery}
-use Rattle.nbd_server.proofs.DeliveryLemmas.{read-led, delivered-led, pieces-led}
-use Rattle.nbd_server.proofs.LocatingLemmas.{answers-led}
+use Rattle.nbd_server.proofs.DeliveryLemmas.{delivered-led, pieces-led}
+use Rattle.nbd_server.proofs.PieceLemmas.{read-led}
+use Rattle.nbd_server.proofs.UndividedLemmas.{answers-led}
+use Rattle.nbd_server.proofs.PrefetchLemmas.{cache-led}
 use Rattle.nbd_server.proofs.ReadStatusLemmas.{status-led}
 
 stays-led : (w w' : World) → w' ≡ w → IsLed EachPart w w'
@@ -71,12 +74,18 @@ settle-led w true Does led (Ok content) w' p = led-then EachPart w p.0 w' (led (
 settle-led w true Does led (Err error) w' (inl p) = led (Err error) w' p
 settle-led w true Does led (Err error) w' (inr p) = led-then EachPart w p.0 w' (led (Ok []) p.0 p.1) (flush-led p.0 (Err error) w' p.2)
 
+zero-led : (e : ExportRecord) (w : World) (offset length : ℕ) (fua : Bool) (outcome : RequestOutcome) (w' : World) → ServesZero e w offset length fua outcome w' → IsLed EachPart w w'
+zero-led e w offset length fua outcome w' p = settle-led w fua (ReportsSpace (WritesAny e w offset (replicate length 0))) (λ o v q. write-led e w offset (replicate length 0) q.0 v q.1) outcome w' p
+
 command-led : (e : ExportRecord) (w : World) (command : Result Command RequestError) (payload : List ℕ) (outcome : RequestOutcome) (w' : World) → ServesCommand e w command payload outcome w' → IsLed EachPart w w'
 command-led e w (Err error) payload outcome w' p = stays-led w w' p.1
 command-led e w (Ok (Read offset length)) payload outcome w' p = answers-led e w offset length outcome w' p
 command-led e w (Ok (Write offset length fua)) payload outcome w' p = settle-led w fua (ReportsSpace (WritesGiven e w offset payload)) (λ o v q. given-led e w offset payload q.0 v q.1) outcome w' p
-command-led e w (Ok (Zero offset length fua)) payload outcome w' p = settle-led w fua (ReportsSpace (WritesAny e w offset (replicate length 0))) (λ o v q. write-led e w offset (replicate length 0) q.0 v q.1) outcome w' p
+command-led e w (Ok (Zero offset length fua false)) payload outcome w' p = zero-led e w offset length fua outcome w' p
+command-led e w (Ok (Zero offset length fua true)) payload outcome w' (inl p) = zero-led e w offset length fua outcome w' p.0
+command-led e w (Ok (Zero offset length fua true)) payload outcome w' (inr p) = stays-led w w' p.0.1
 command-led e w (Ok Hint) payload outcome w' p = stays-led w w' p.1
+command-led e w (Ok (Cache offset length)) payload outcome w' p = cache-led e w offset length outcome w' p
 command-led e w (Ok Flush) payload outcome w' p = flush-led w outcome w' p
 command-led e w (Ok (Status offset length one)) payload outcome w' p = status-led e w offset length one outcome w' p
 

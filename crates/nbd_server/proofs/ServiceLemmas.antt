@@ -14,7 +14,7 @@ use Rattle.nbd_protocol.specs.declared.phase.Agreement.{Agreement}
 use Rattle.nbd_protocol.specs.declared.phase.Phase.{Phase}
 use Rattle.nbd_protocol.specs.declared.phase.Phase.TheVariants.{Greeted, Haggling, Serving, Over}
 use Rattle.nbd_protocol.specs.declared.header.Command.{Command}
-use Rattle.nbd_protocol.specs.declared.header.Command.TheVariants.{Read, Write, Zero, Hint, Flush, Status}
+use Rattle.nbd_protocol.specs.declared.header.Command.TheVariants.{Read, Write, Zero, Hint, Cache, Flush, Status}
 use Rattle.nbd_protocol.specs.declared.request_error.RequestError.{RequestError}
 use Rattle.nbd_server.specs.declared.failure.Failure.{Failure}
 use Rattle.nbd_protocol.specs.Exports.{AreExports, ExportRecord, asked, export_at, export_records}
@@ -23,7 +23,7 @@ use Rattle.nbd_protocol.specs.Numbers.{big_endian32}
 use Rattle.nbd_protocol.specs.Headers.{command_of, header_of}
 use Rattle.nbd_server.specs.Sectors.{EndsPut, StopsPut}
 use Rattle.nbd_server.specs.Replies.{RequestOutcome}
-use Rattle.nbd_server.specs.Transmission.{FailsToReadEnds, Flushes, IsFramed, ReportsSpace, ServesCommand, Settles, WritesAtOnce, WritesGiven, WritesPayload, WritesAny, room_behind}
+use Rattle.nbd_server.specs.Transmission.{FailsToReadEnds, IsFramed, ReportsSpace, ServesCommand, ServesZero, WritesAtOnce, WritesGiven, WritesPayload, WritesAny, room_behind}
 use Rattle.nbd_protocol.specs.Handshake.{greeting, is_info, name_in, phase_after, serving_at, terms_after, terms_after_long}
 use Rattle.nbd_protocol.proofs.lemmas.ExportLemmas.{asked-inside}
 use Rattle.nbd_server.specs.Premises.{IsExportPlaced}
@@ -33,19 +33,22 @@ use Rattle.nbd_protocol.specs.declared.header.Header.{Header}
 use Rattle.nbd_server.specs.Delivery.{delivery_of}
 use Rattle.nbd_server.specs.declared.delivery.Delivery.{Delivery}
 use Rattle.nbd_server.specs.Service.{AnswersOption, BeginsMessage, Conversation, begins, goes_on, EndsTurn, IsInterrupted, IsService, IsLastRequest, IsServedRequest, IsUnanswered, GivesReply, TakesMessage, faults_before, faults_of, message_faults, message_log, log_before, log_of}
-use Rattle.nbd_server.specs.declared.first_faults.FirstFault.{FirstFault}
+use Rattle.nbd_server.specs.declared.known_faults.ExportFault.{ExportFault}
 use Rattle.nbd_server.specs.Logs.{no_log}
 use Rattle.nbd_server.specs.declared.session_end.SessionEnd.TheVariants.{Ended, Gone}
 use Rattle.nbd_server.specs.declared.session_log.SessionLog.{SessionLog}
-use Rattle.nbd_server.proofs.DeliveryLemmas.{delivered-config, read-config}
-use Rattle.nbd_server.proofs.LocatingLemmas.{answers-config}
+use Rattle.nbd_server.proofs.FlushLemmas.{flush-config, settle-config}
+use Rattle.nbd_server.proofs.DeliveryLemmas.{delivered-config}
+use Rattle.nbd_server.proofs.PieceLemmas.{read-config}
+use Rattle.nbd_server.proofs.UndividedLemmas.{answers-config}
+use Rattle.nbd_server.proofs.PrefetchLemmas.{cache-config}
 use Rattle.nbd_server.proofs.ReadStatusLemmas.{status-config}
 use Rattle.nbd_server.proofs.RunLemmas.{begun-led, talk-led}
 use Rattle.request_queue.proofs.lemmas.LedLemmas.{led-then}
 
 -- what is said of a list of faults
 abbrev Reporting : Type 1
-Reporting = List FirstFault → Type 0
+Reporting = List ExportFault → Type 0
 
 -- the messages so far, the greeting and their replies, their log and the report of their faults
 abbrev pub IsTalk : List ExportRecord → World → Phase → World → SessionLog → Reporting → List ℕ → List ℕ → Type 0
@@ -66,12 +69,12 @@ held-kept {old = old} Reports input output output' h k = record { taken = h.take
 
 -- the same with another report of the faults
 pub held-as : {es : List ExportRecord} {first now : World} {phase : Phase} {log : SessionLog} {old new : Streams} (Reports Reports' : Reporting) → BusyOr es first phase now log Reports old new
-    → ((faults : List FirstFault) → Reports faults → Reports' faults) → BusyOr es first phase now log Reports' old new
+    → ((faults : List ExportFault) → Reports faults → Reports' faults) → BusyOr es first phase now log Reports' old new
 held-as Reports Reports' h implies = record { taken = h.taken; written = h.written; consumed = h.consumed; appended = h.appended; holds = (h.holds.0, h.holds.1, h.holds.2, h.holds.3, implies (faults_of h.holds.1) h.holds.4) }
 
 pub held-more : {es : List ExportRecord} {first now : World} {phase : Phase} {log : SessionLog} {old mid : Streams} (Reports Reports' : Reporting) (next : Phase) (now' : World) (log' : SessionLog) (new : Streams)
     → BusyOr es first phase now log Reports old mid → (t : EndsTurn es phase now now' log log' mid new (Ok (Some next)))
-    → ((faults : List FirstFault) → Reports faults → Reports' (faults ++ message_faults es phase now t.taken t.written next now' t.holds.0)) → BusyOr es first next now' log' Reports' old new
+    → ((faults : List ExportFault) → Reports faults → Reports' (faults ++ message_faults es phase now t.taken t.written next now' t.holds.0)) → BusyOr es first next now' log' Reports' old new
 held-more {es = es} {now = now} {phase = phase} {old = old} {mid = mid} Reports Reports' next now' log' new h t reports = record {
   taken = h.taken ++ t.taken;
   written = h.written ++ t.written;
@@ -272,23 +275,18 @@ given-config : (e : ExportRecord) (w : World) (offset : ℕ) (bytes : List ℕ) 
 given-config e w offset bytes outcome w' (inl p) = same-config w w' p.1
 given-config e w offset bytes outcome w' (inr p) = payload-config e w offset bytes outcome w' p
 
-flush-config : (w : World) (outcome : RequestOutcome) (w' : World) → Flushes w outcome w' → w'.stack.config ≡ w.stack.config
-flush-config w (Ok content) w' p = ap (λ (x : World). x.stack.config) p.1
-flush-config w (Err error) w' p = ap (λ (x : World). x.stack.config) p.2.leaves
-
-settle-config : (w : World) (fua : Bool) (Does : RequestOutcome → World → Type 0) → ((o : RequestOutcome) (v : World) → Does o v → v.stack.config ≡ w.stack.config) → (outcome : RequestOutcome) (w' : World)
-    → Settles fua Does outcome w' → w'.stack.config ≡ w.stack.config
-settle-config w false Does kept outcome w' p = kept outcome w' p
-settle-config w true Does kept (Ok content) w' p = flush-config p.0 (Ok content) w' p.2 ∙ kept (Ok []) p.0 p.1
-settle-config w true Does kept (Err error) w' (inl p) = kept (Err error) w' p
-settle-config w true Does kept (Err error) w' (inr p) = flush-config p.0 (Err error) w' p.2 ∙ kept (Ok []) p.0 p.1
+zero-config : (e : ExportRecord) (w : World) (offset length : ℕ) (fua : Bool) (outcome : RequestOutcome) (w' : World) → ServesZero e w offset length fua outcome w' → w'.stack.config ≡ w.stack.config
+zero-config e w offset length fua outcome w' p = settle-config w fua (ReportsSpace (WritesAny e w offset (replicate length 0))) (λ o v q. write-config e w offset (replicate length 0) q.0 v q.1) outcome w' p
 
 command-config : (e : ExportRecord) (w : World) (command : Result Command RequestError) (payload : List ℕ) (outcome : RequestOutcome) (w' : World) → ServesCommand e w command payload outcome w' → w'.stack.config ≡ w.stack.config
 command-config e w (Err error) payload outcome w' p = same-config w w' p.1
 command-config e w (Ok (Read offset length)) payload outcome w' p = answers-config e w offset length outcome w' p
 command-config e w (Ok (Write offset length fua)) payload outcome w' p = settle-config w fua (ReportsSpace (WritesGiven e w offset payload)) (λ o v q. given-config e w offset payload q.0 v q.1) outcome w' p
-command-config e w (Ok (Zero offset length fua)) payload outcome w' p = settle-config w fua (ReportsSpace (WritesAny e w offset (replicate length 0))) (λ o v q. write-config e w offset (replicate length 0) q.0 v q.1) outcome w' p
+command-config e w (Ok (Zero offset length fua false)) payload outcome w' p = zero-config e w offset length fua outcome w' p
+command-config e w (Ok (Zero offset length fua true)) payload outcome w' (inl p) = zero-config e w offset length fua outcome w' p.0
+command-config e w (Ok (Zero offset length fua true)) payload outcome w' (inr p) = same-config w w' p.0.1
 command-config e w (Ok Hint) payload outcome w' p = same-config w w' p.1
+command-config e w (Ok (Cache offset length)) payload outcome w' p = cache-config e w offset length outcome w' p
 command-config e w (Ok Flush) payload outcome w' p = flush-config w outcome w' p
 command-config e w (Ok (Status offset length one)) payload outcome w' p = status-config e w offset length one outcome w' p
 

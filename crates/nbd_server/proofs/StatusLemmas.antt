@@ -14,7 +14,9 @@ use Rattle.nbd_protocol.specs.Numbers.{bytes32}
 use Rattle.nbd_server.specs.declared.status.BlockStatus.{BlockStatus}
 use Rattle.nbd_server.specs.declared.status.ByteExtent.{ByteExtent}
 use Rattle.nbd_server.specs.Premises.{AreBytesOf}
-use Rattle.nbd_server.specs.Status.{HasStatus, IsByteExtent, IsLineStatus, IsOtherKind, IsStatus, TellsEachStatus, tells_none, tells_more, TouchZeros, descriptor, status_flags, touched}
+use Rattle.nbd_server.specs.Status.{HasStatus, IsByteExtent, IsLineStatus, IsOtherKind, IsStatus, TellsEachStatus, tells_none, tells_more, TouchKind, TouchZeros, descriptor, status_flags, touched}
+use Rattle.nbd_server.specs.Transmission.{HasSlowByte}
+use Rattle.nbd_server.specs.declared.extent.ExtentKind.{ExtentKind}
 use Rattle.nbd_server.proofs.ExtentLemmas.{kind-other, kind-same}
 
 -- the part of an extent that was asked for
@@ -71,6 +73,36 @@ status-zeros c e offset at left s p sure = subst (λ (n : ℕ). TouchZeros c e a
 
 pub status-other : (c : Configuration) (e : ExportRecord) (offset at left : ℕ) (s : BlockStatus) → IsLineStatus c e offset at left s → s.zeros ≡ false → IsOtherKind c e known.Zeros at
 status-other c e offset at left s p none = (p.extent.kind, kind-other p.extent.kind known.Zeros (sym p.zeros ∙ none), extent-begins c e p.runs at left p.extent p.is)
+
+-- a byte range that begins on another line, and one whose extent on `zero` lines ends before it
+pub slow-begins : (c : Configuration) (e : ExportRecord) (at left : ℕ) (extent : ByteExtent) → 0 < left → IsByteExtent c e most_runs at left extent → is_same_kind extent.kind known.Zeros ≡ false → HasSlowByte c e at left
+slow-begins c e at left extent some p other =
+    let same : at ≤ at = omega arith in
+    let inside : at < at + left = omega (arith, some) in
+    (at, same, inside, inl (extent.kind, kind-other extent.kind known.Zeros other, extent-begins c e most_runs at left extent p))
+
+pub slow-ends : (c : Configuration) (e : ExportRecord) (at left : ℕ) (extent : ByteExtent) → IsByteExtent c e most_runs at left extent → extent.kind ≡ known.Zeros → extent.count < left → HasSlowByte c e at left
+slow-ends c e at left extent p zeros short =
+    let past : at ≤ at + extent.count = omega arith in
+    let inside : at + extent.count < at + left = omega (arith, short) in (
+      at + extent.count,
+      past,
+      inside,
+      elim p.ends [
+        | inl all ↦ absurd (apart all short)
+        | inr (inl runs) ↦ inr runs
+        | inr (inr other) ↦ inl (subst (λ (k : ExtentKind). IsOtherKind c e k (at + extent.count)) zeros other)
+      ],
+    )
+  where
+    apart : extent.count ≡ left → extent.count < left → ⊥
+    apart all below = omega (arith, all, below)
+
+-- one whose extent on `zero` lines is all of it
+pub zeros-whole : (c : Configuration) (e : ExportRecord) (at left : ℕ) (extent : ByteExtent) → IsByteExtent c e most_runs at left extent → extent.kind ≡ known.Zeros → left ≤ extent.count → TouchKind c e known.Zeros at left
+zeros-whole c e at left extent p zeros long =
+    let all : extent.count ≡ left = omega (arith, p.few, long) in
+    subst (λ (n : ℕ). TouchKind c e known.Zeros at n) all (subst (λ (k : ExtentKind). TouchKind c e k at extent.count) zeros p.kind)
 
 bytes-four : (n : ℕ) → length (bytes32 n) ≡ 4
 unfolding bytes32

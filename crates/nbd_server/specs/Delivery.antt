@@ -21,8 +21,8 @@ use Rattle.nbd_server.specs.Status.{IsLineStatus, IsOtherKind, TouchZeros, touch
 use Rattle.nbd_server.specs.declared.extent.ExtentKind.TheVariants as known
 use Rattle.nbd_server.specs.Failures.{failure_text, fault_of, reported_error}
 use Rattle.nbd_server.specs.declared.failure.Failure.{Failure}
-use Rattle.nbd_server.specs.declared.first_faults.SectorFault.{SectorFault}
-use Rattle.nbd_server.specs.Transmission.{ReadsExport}
+use Rattle.nbd_server.specs.declared.known_faults.SectorFault.{SectorFault}
+use Rattle.nbd_server.specs.Reads.{ReadsExport}
 use Rattle.nbd_server.specs.declared.delivery.Delivery.{Delivery}
 use Rattle.nbd_server.specs.declared.progress.Progress.{Progress}
 
@@ -46,12 +46,12 @@ delivery_of e a h = if is_chunked a h && not (has_df h) then bytes_asked h.cooki
 
 -- ---- one piece
 
--- the most sectors that a piece touches, and their bytes: 256 KiB
+-- the most sectors that a piece touches, and their bytes: 1 MiB
 abbrev pub most_piece_sectors : ℕ
-most_piece_sectors = 512
+most_piece_sectors = 2048
 
 abbrev pub most_piece_bytes : ℕ
-most_piece_bytes = 262144
+most_piece_bytes = 1048576
 
 -- the most sectors that a piece touches if a larger one couldn't be read: those of 4,096 bytes
 abbrev pub few_sectors : ℕ
@@ -97,6 +97,22 @@ abbrev pub progress_again : Progress → ℕ → ℕ → Progress
 progress_again p size sectors =
     if nat_lt few_sectors sectors then record { done = p.done; slow = p.done + size; single = p.single } else record { done = p.done; slow = p.slow; single = p.done + size }
 
+-- The next piece lies in several sectors and couldn't be read. Its bytes are read again by smaller pieces.
+pub record IsReadAgain (e : ExportRecord) (d : Delivery) (p : Progress) (w : World) (next : Progress) (w' : World) : Type 0 where
+  pub size : ℕ
+  pub error : Failure
+  pub piece : IsDeliveryPiece w.stack.config e.device d p size
+  pub several : 1 < touched (d.offset + p.done) size
+  pub reads : ReadsExport e w (d.offset + p.done) size (Err error) w'
+  pub next_is : next ≡ progress_again p size (touched (d.offset + p.done) size)
+
+-- the next piece lies in one sector, which couldn't be read
+pub record IsSectorLost (e : ExportRecord) (d : Delivery) (p : Progress) (w : World) (w' : World) (error : Failure) : Type 0 where
+  pub size : ℕ
+  pub piece : IsDeliveryPiece w.stack.config e.device d p size
+  pub one : touched (d.offset + p.done) size ≡ 1
+  pub reads : ReadsExport e w (d.offset + p.done) size (Err error) w'
+
 -- the first n of `left` bytes from an offset on are an extent on `zero` lines
 abbrev pub BeginsWithZeros : Configuration → ExportRecord → ℕ → ℕ → ℕ → Type 0
 BeginsWithZeros c e at left n = IsLineStatus c e at at left (record { count = n; zeros = true })
@@ -110,23 +126,17 @@ pub record IsSent (e : ExportRecord) (d : Delivery) (p : Progress) (w : World) (
   pub told : TellsContent d.cookie (p.done + size == d.count) (d.offset + p.done) content chunk
   pub next_is : next ≡ progress_after p size
 
--- The piece lies in several sectors and couldn't be read. Nothing is sent, and its bytes are read again by smaller pieces.
+-- nothing is sent of a piece that is read again
 pub record IsPutOff (e : ExportRecord) (d : Delivery) (p : Progress) (w : World) (chunk : List ℕ) (next : Progress) (w' : World) : Type 0 where
-  pub size : ℕ
-  pub error : Failure
-  pub piece : IsReadPiece w.stack.config e d p size
-  pub several : 1 < touched (d.offset + p.done) size
-  pub reads : ReadsExport e w (d.offset + p.done) size (Err error) w'
+  pub other : IsOtherKind w.stack.config e known.Zeros (d.offset + p.done)
+  pub again : IsReadAgain e d p w next w'
   pub silent : chunk ≡ []
-  pub next_is : next ≡ progress_again p size (touched (d.offset + p.done) size)
 
--- The piece lies in one sector that couldn't be read. The last chunk reports the error and the piece's offset.
+-- The last chunk reports the error of a sector that couldn't be read, and the piece's offset.
 pub record IsLost (e : ExportRecord) (d : Delivery) (p : Progress) (w : World) (chunk : List ℕ) (w' : World) : Type 0 where
-  pub size : ℕ
   pub error : Failure
-  pub piece : IsReadPiece w.stack.config e d p size
-  pub one : touched (d.offset + p.done) size ≡ 1
-  pub reads : ReadsExport e w (d.offset + p.done) size (Err error) w'
+  pub other : IsOtherKind w.stack.config e known.Zeros (d.offset + p.done)
+  pub sector : IsSectorLost e d p w w' error
   pub chunk_is : chunk ≡ error_at_chunk d.cookie (d.offset + p.done) (reported_error error) (failure_text error)
 
 -- The first bytes of the piece are on `zero` lines, so they are zeros whatever the backing devices hold. Nothing is read, and a

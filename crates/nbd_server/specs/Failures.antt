@@ -3,9 +3,10 @@ use Rattle.std.specs.Prelude.{ℕ, ◌==◌, List, ◌++◌, Option, Some, None,
 use Rattle.block_device.specs.Device.{Device}
 use Rattle.nbd_protocol.specs.declared.request_error.RequestError.{RequestError}
 use Rattle.nbd_protocol.specs.declared.request_error.RequestError.TheVariants.{InputOutput, Invalid, NoMemory, NoSpace, NotPermitted, NotSupported}
+use Rattle.nbd_server.specs.declared.data_block.DataBlock.{DataBlock}
 use Rattle.nbd_server.specs.declared.failure.Failure.{Failure}
 use Rattle.nbd_server.specs.declared.failure.Failure.TheVariants.{Faulty, Full, Refused, Unsynced}
-use Rattle.nbd_server.specs.declared.first_faults.SectorFault.{SectorFault}
+use Rattle.nbd_server.specs.declared.known_faults.SectorFault.{SectorFault}
 use Rattle.nbd_server.specs.declared.lost.LostPiece.{LostPiece}
 use Rattle.nbd_server.specs.DataBlocks.{sector_block}
 use Rattle.request_queue.specs.declared.fault.PieceFault.{PieceFault}
@@ -21,18 +22,18 @@ abbrev pub no_memory : Failure
 no_memory = Refused NoMemory
 
 -- the data block of a sector that fails verification; other faults have none
-abbrev pub fault_block : IoFault → Option ℕ → Option ℕ
+abbrev pub fault_block : IoFault → Option DataBlock → Option DataBlock
 fault_block (io.Stack Mismatch) block = block
 fault_block (io.Stack ErrorTarget) block = None
 fault_block (io.Device leaf) block = None
 fault_block io.NoMemory block = None
 
 -- that of a piece of mapped device d that is one sector; which block of a longer piece fails isn't known
-abbrev pub lost_block : Configuration → ℕ → PieceFault → Option ℕ
+abbrev pub lost_block : Configuration → ℕ → PieceFault → Option DataBlock
 lost_block c d piece = if piece.count == 1 then fault_block piece.fault (sector_block c (mapped d) piece.first) else None
 
 -- the piece at which an access ended, with that block
-abbrev pub lost : Option ℕ → PieceFault → LostPiece
+abbrev pub lost : Option DataBlock → PieceFault → LostPiece
 lost block piece = record { first = piece.first; count = piece.count; fault = piece.fault; block = block }
 
 -- what an access that ended so comes to
@@ -89,15 +90,15 @@ plain_text (Faulty piece) = fault_text piece.fault
 plain_text (Full piece) = codes "a backing device has no space left"
 plain_text (Unsynced fault) = fault_text fault
 
-abbrev pub told_block : Failure → Option ℕ
+abbrev pub told_block : Failure → Option DataBlock
 told_block (Refused error) = None
 told_block (Faulty piece) = piece.block
 told_block (Full piece) = None
 told_block (Unsynced fault) = None
 
-abbrev pub text_or : List ℕ → Option ℕ → List ℕ
+abbrev pub text_or : List ℕ → Option DataBlock → List ℕ
 text_or text None = text
-text_or text (Some block) = block_text block
+text_or text (Some block) = block_text block.number
 
 abbrev pub failure_text : Failure → List ℕ
 failure_text failure = text_or (plain_text failure) (told_block failure)

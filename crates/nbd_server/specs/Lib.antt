@@ -4,11 +4,13 @@ pub mod Logs
 pub mod FaultLines
 pub mod FaultLog
 pub mod Sectors
-pub mod Locating
 pub mod Replies
 pub mod Status
 pub mod Tallies
 pub mod Transmission
+pub mod Reads
+pub mod Undivided
+pub mod Prefetch
 pub mod Content
 pub mod Delivery
 pub mod Causes

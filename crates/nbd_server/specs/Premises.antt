@@ -8,15 +8,13 @@ use Rattle.nbd_protocol.specs.declared.header.Command.{Command}
 use Rattle.nbd_protocol.specs.declared.header.Command.TheVariants.{Write}
 use Rattle.request_queue.specs.World.{World}
 use Rattle.nbd_server.specs.Replies.{RequestOutcome}
-use Rattle.nbd_server.specs.Transmission.{ReadsExport, WritesAtOnce, room_behind}
+use Rattle.nbd_server.specs.Reads.{ReadsExport}
+use Rattle.nbd_server.specs.Transmission.{WritesAtOnce, room_behind}
 use Rattle.nbd_server.specs.Delivery.{most_piece_bytes}
 use Rattle.nbd_server.specs.Sectors.{most_run_bytes}
 use Rattle.nbd_server.specs.Zeros.{zeros_of}
 use Rattle.nbd_server.specs.declared.delivery.Delivery.{Delivery}
 use Rattle.nbd_server.specs.declared.progress.Progress.{Progress}
-use Rattle.nbd_server.specs.declared.failure.Failure.{Failure}
-use Rattle.nbd_server.specs.declared.failure.Failure.TheVariants.{Faulty}
-use Rattle.nbd_server.specs.declared.lost.LostPiece.{LostPiece}
 use Rattle.nbd_server.specs.declared.zeros.Zeros.{Zeros}
 use Rattle.nbd_protocol.specs.declared.phase.Phase.{Phase}
 use Rattle.nbd_protocol.specs.declared.phase.Phase.TheVariants.{Over, Serving}
@@ -53,16 +51,6 @@ pub record AreSectorsOf (c : Configuration) (e : ExportRecord) (first count : �
   pub inside : first + count ≤ size c (mapped e.device)
   pub few : count < 2 ^ 32
 
--- the sectors of a piece of the export that couldn't be read
-pub record AreLostSectors (c : Configuration) (e : ExportRecord) (piece : LostPiece) : Type 0 where
-  pub export : IsExport c e
-  pub inside : piece.first + piece.count ≤ size c (mapped e.device)
-
--- the sectors of a failure are sectors of the export
-abbrev pub IsLostInside : Configuration → ExportRecord → Failure → Type 0
-IsLostInside c e (Faulty piece) = AreLostSectors c e piece
-IsLostInside c e error = Unit {0}
-
 -- the sizes of what a byte range leaves of its first sector (before it) and of its last sector (after it)
 pub record HaveSizes (offset count : ℕ) (front back : List ℕ) : Type 0 where
   pub before : length front ≡ offset % 512
@@ -98,3 +86,8 @@ WritesFrom e w at count buffer outcome w' = WritesAtOnce e w at (take count (dro
 pub record IsDeliveryRest (d : Delivery) (p : Progress) : Type 0 where
   pub inside : p.done ≤ d.count
   pub small : d.offset + d.count < 2 ^ 64
+
+-- the bytes of a READ aren't all read, and a buffer has its size
+pub record HasRoom (d : Delivery) (p : Progress) (buffer : List ℕ) : Type 0 where
+  pub more : p.done < d.count
+  pub held : length buffer ≡ d.count

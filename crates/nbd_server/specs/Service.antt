@@ -19,8 +19,8 @@ use Rattle.nbd_server.specs.Tallies.{moved_bytes}
 use Rattle.nbd_server.specs.Transmission.{ServesRequest}
 use Rattle.nbd_server.specs.Delivery.{IsBegun, IsDelivered, delivery_fault, delivery_of}
 use Rattle.nbd_server.specs.Logs.{logged, met_faults, no_log, outcome_fault}
-use Rattle.nbd_server.specs.declared.first_faults.FirstFault.{FirstFault}
-use Rattle.nbd_server.specs.declared.first_faults.SectorFault.{SectorFault}
+use Rattle.nbd_server.specs.declared.known_faults.ExportFault.{ExportFault}
+use Rattle.nbd_server.specs.declared.known_faults.SectorFault.{SectorFault}
 use Rattle.nbd_server.specs.declared.session_end.SessionEnd.{SessionEnd}
 use Rattle.nbd_server.specs.declared.session_end.SessionEnd.TheVariants.{Ended, Gone}
 use Rattle.nbd_server.specs.declared.session_log.SessionLog.{SessionLog}
@@ -141,23 +141,23 @@ log_before (goes_on message reply talk takes) = log_of talk
 
 -- the fault of a request, if it had one
 abbrev pub request_faults : (e : ExportRecord) → (agreed : Agreement) → (w : World) → (header payload reply : List ℕ) → (next : Phase) → (w' : World)
-    → IsLastRequest w header reply next w' ⊎ ((header_of header).kind ≢ 2) × IsServedRequest e agreed w header payload reply next w' → List FirstFault
+    → IsLastRequest w header reply next w' ⊎ ((header_of header).kind ≢ 2) × IsServedRequest e agreed w header payload reply next w' → List ExportFault
 request_faults e agreed w header payload reply next w' (inl last) = []
 request_faults e agreed w header payload reply next w' (inr served) =
     met_faults agreed.place (request_fault e agreed w (header_of header) payload (delivery_of e agreed (header_of header)) reply w' served.1.replies)
 
 -- the fault of a message, if it is a request and had one
-abbrev pub message_faults : (es : List ExportRecord) → (phase : Phase) → (w : World) → (message reply : List ℕ) → (next : Phase) → (w' : World) → TakesMessage es phase w message reply next w' → List FirstFault
+abbrev pub message_faults : (es : List ExportRecord) → (phase : Phase) → (w : World) → (message reply : List ℕ) → (next : Phase) → (w' : World) → TakesMessage es phase w message reply next w' → List ExportFault
 message_faults es (Serving agreed) w message reply next w' takes = request_faults (export_at es agreed.place) agreed w takes.header takes.payload reply next w' takes.answered
 message_faults es phase w message reply next w' takes = []
 
 -- the faults of a sequence of messages, in their order
-abbrev pub faults_of : {es : List ExportRecord} {first : World} {phase : Phase} {w : World} {taken written : List ℕ} → Conversation es first phase w taken written → List FirstFault
+abbrev pub faults_of : {es : List ExportRecord} {first : World} {phase : Phase} {w : World} {taken written : List ℕ} → Conversation es first phase w taken written → List ExportFault
 faults_of begins = []
 faults_of {es = es} (goes_on {phase = phase} {next = next} {w = w} {w' = w'} message reply talk takes) = faults_of talk ++ message_faults es phase w message reply next w' takes
 
 -- those of the messages before the last one
-abbrev pub faults_before : {es : List ExportRecord} {first : World} {phase : Phase} {w : World} {taken written : List ℕ} → Conversation es first phase w taken written → List FirstFault
+abbrev pub faults_before : {es : List ExportRecord} {first : World} {phase : Phase} {w : World} {taken written : List ℕ} → Conversation es first phase w taken written → List ExportFault
 faults_before begins = []
 faults_before (goes_on message reply talk takes) = faults_of talk
 
@@ -249,7 +249,7 @@ EndsSo es phase rest input (Err fault) = Breaks es phase rest input fault
 
 -- the input was whole messages and a rest, and the output the greeting and the replies to these messages; the log is theirs, and their
 -- faults are reported
-pub record IsHeld (es : List ExportRecord) (first last : World) (input : Option (List ℕ)) (log : SessionLog) (Reports : List FirstFault → Type 0) (result : Result SessionEnd ServiceFault) (taken written : List ℕ) : Type 0 where
+pub record IsHeld (es : List ExportRecord) (first last : World) (input : Option (List ℕ)) (log : SessionLog) (Reports : List ExportFault → Type 0) (result : Result SessionEnd ServiceFault) (taken written : List ℕ) : Type 0 where
   pub phase : Phase
   pub whole : List ℕ
   pub replies : List ℕ
@@ -263,7 +263,7 @@ pub record IsHeld (es : List ExportRecord) (first last : World) (input : Option 
 
 -- The input was whole messages, which were handled. The reply to the last one failed, or the greeting; or only some of its pieces
 -- were read, if it is answered piece by piece. That one isn't counted.
-pub record IsServiceDone (es : List ExportRecord) (first last : World) (old new : Option (List ℕ)) (log : SessionLog) (Reports : List FirstFault → Type 0) : Type 0 where
+pub record IsServiceDone (es : List ExportRecord) (first last : World) (old new : Option (List ℕ)) (log : SessionLog) (Reports : List ExportFault → Type 0) : Type 0 where
   pub phase : Phase
   pub whole : List ℕ
   pub replies : List ℕ
@@ -275,7 +275,7 @@ pub record IsServiceDone (es : List ExportRecord) (first last : World) (old new 
 
 -- What a session read and wrote, from the first state of its queue to the last, the log of its requests, and the report of their
 -- faults.
-pub record IsService (es : List ExportRecord) (first last : World) (old new : Streams) (log : SessionLog) (Reports : List FirstFault → Type 0) (result : Result SessionEnd ServiceFault) : Type 0 where
+pub record IsService (es : List ExportRecord) (first last : World) (old new : Streams) (log : SessionLog) (Reports : List ExportFault → Type 0) (result : Result SessionEnd ServiceFault) : Type 0 where
   -- if the writer didn't fail
   pub held : result ≢ Err WriteFault → Spoken old new (IsHeld es first last new.input log Reports result)
   -- if the writer failed

@@ -1,5 +1,5 @@
 -- The transmission phase: the effect and the result of each request.
-use Rattle.std.specs.Prelude.{◌≡◌, ◌⊎◌, ◌≤◌, ℕ, ◌+◌, ◌-◌, ◌*◌, ◌/◌, ◌%◌, min, Bool, true, false, List, Vec, [], ◌∷◌, ◌++◌, length, take, drop, replicate, Result, Ok, Err, IfOk, Option, if◌then◌else◌}
+use Rattle.std.specs.Prelude.{◌≡◌, ◌⊎◌, ◌<◌, ◌≤◌, ℕ, ◌+◌, ◌-◌, ◌*◌, ◌/◌, ◌%◌, min, Bool, true, false, List, Vec, [], ◌∷◌, ◌++◌, length, take, drop, replicate, Result, Ok, Err, IfOk, Option, if◌then◌else◌}
 use Rattle.std.specs.Global.{Global}
 use Rattle.std.specs.Io.KnownBytes.{Consumes}
 use Rattle.allocation.specs.Refusal.{IsOutOfMemory}
@@ -11,22 +11,26 @@ use Rattle.nbd_protocol.specs.Exports.{ExportRecord, export_record}
 use Rattle.nbd_protocol.specs.Headers.{command_of, most_length, payload_len}
 use Rattle.nbd_protocol.specs.declared.phase.Agreement.{Agreement}
 use Rattle.nbd_server.specs.Replies.{RequestOutcome}
-use Rattle.nbd_server.specs.Status.{HasLineStatus, HasReadStatus, IsByteExtent, IsOtherKind, TouchIgnoring, touched}
+use Rattle.nbd_server.specs.Status.{HasLineStatus, HasReadStatus, IsByteExtent, IsOtherKind, TouchIgnoring, TouchKind, touched}
 use Rattle.nbd_server.specs.Extents.{most_runs}
 use Rattle.nbd_server.specs.declared.extent.ExtentKind.TheVariants as known
 use Rattle.nbd_server.specs.declared.status.ByteExtent.{ByteExtent}
-use Rattle.nbd_server.specs.Sectors.{IsFetched, FailsToFetch, IsStoredAtOnce, FailsToPutAtOnce}
-use Rattle.nbd_server.specs.Locating.{Locates}
+use Rattle.nbd_server.specs.Sectors.{IsStoredAtOnce, FailsToPutAtOnce}
+use Rattle.nbd_server.specs.Reads.{ReadsExport}
+use Rattle.nbd_server.specs.Undivided.{AnswersRead}
+use Rattle.nbd_server.specs.Prefetch.{ServesCache}
 use Rattle.nbd_server.specs.Zeros.{IsStoredInRuns, FailsToPutInRuns}
 use Rattle.nbd_protocol.specs.declared.header.Header.{Header}
 use Rattle.nbd_protocol.specs.declared.header.Command.{Command}
-use Rattle.nbd_protocol.specs.declared.header.Command.TheVariants.{Read, Write, Zero, Hint, Flush, Status}
+use Rattle.nbd_protocol.specs.declared.header.Command.TheVariants.{Read, Write, Zero, Hint, Cache, Flush, Status}
 use Rattle.nbd_protocol.specs.Streaming.{IsShort}
 use Rattle.nbd_protocol.specs.declared.export.Export.{Export}
 use Rattle.nbd_protocol.specs.declared.fault.ServiceFault.{ServiceFault}
 use Rattle.nbd_server.specs.declared.byte_range.Ends.{Ends}
 use Rattle.nbd_server.specs.declared.reply.Data.{Data}
 use Rattle.nbd_protocol.specs.declared.request_error.RequestError.{RequestError}
+use Rattle.nbd_protocol.specs.declared.request_error.RequestError.TheVariants.{NotSupported}
+use Rattle.stack_rules.specs.Records.{Configuration}
 use Rattle.nbd_server.specs.Failures.{no_memory, write_failure}
 use Rattle.nbd_server.specs.declared.failure.Failure.{Failure}
 use Rattle.nbd_server.specs.declared.failure.Failure.TheVariants.{Refused, Unsynced}
@@ -35,19 +39,9 @@ use Rattle.nbd_server.specs.declared.failure.Failure.TheVariants.{Refused, Unsyn
 abbrev pub Stays : World → RequestOutcome → World → Type 0
 Stays w outcome w' = (outcome ≡ Ok []) × (w' ≡ w)
 
--- a byte range of the export was read: the sectors that it touches were read, and the range taken from them
-abbrev pub ReadsExport : ExportRecord → World → ℕ → ℕ → RequestOutcome → World → Type 0
-ReadsExport e w offset length (Ok content) w' = (bytes : List ℕ) × IsFetched w e.device (offset / 512) (touched offset length) bytes w' × (content ≡ take length (drop (offset % 512) bytes))
-ReadsExport e w offset length (Err error) w' = FailsToFetch w e.device (offset / 512) (touched offset length) error w'
-
--- A READ that is answered at once. If the byte range can't be read, the failure names the sector.
-abbrev pub AnswersRead : ExportRecord → World → ℕ → ℕ → RequestOutcome → World → Type 0
-AnswersRead e w offset length (Ok content) w' = ReadsExport e w offset length (Ok content) w'
-AnswersRead e w offset length (Err told) w' = (error : Failure) × (mid : World) × ReadsExport e w offset length (Err error) mid × Locates mid e.device error told w'
-
--- the byte range couldn't be read
-abbrev pub FailsToReadBytes : ExportRecord → World → ℕ → ℕ → World → Failure → Type 0
-FailsToReadBytes e w offset length w' error = ReadsExport e w offset length (Err error) w'
+-- an error without effect
+abbrev pub RefusesRequest : World → RequestError → RequestOutcome → World → Type 0
+RefusesRequest w error outcome w' = (outcome ≡ Err (Refused error)) × (w' ≡ w)
 
 -- ---- writes
 
@@ -127,6 +121,26 @@ ReportsSpace Does outcome w' = (met : RequestOutcome) × Does met w' × (outcome
 abbrev pub ServesZero : ExportRecord → World → ℕ → ℕ → Bool → RequestOutcome → World → Type 0
 ServesZero e w offset length fua outcome w' = Settles fua (ReportsSpace (WritesAny e w offset (replicate length 0))) outcome w'
 
+-- each sector that a byte range touches is on `zero` lines
+abbrev pub AreOnZeroLines : Configuration → ExportRecord → ℕ → ℕ → Type 0
+AreOnZeroLines c e offset length = (length ≡ 0) ⊎ TouchKind c e known.Zeros offset length
+
+-- a byte of a byte range is on another line, or so many runs come before it that it isn't known
+abbrev pub HasSlowByte : Configuration → ExportRecord → ℕ → ℕ → Type 0
+HasSlowByte c e offset length =
+    (at : ℕ) × (offset ≤ at) × (at < offset + length) × (IsOtherKind c e known.Zeros at ⊎ (offset / 512 + most_runs ≤ at / 512))
+
+-- whether zeros of a byte range take no write
+abbrev pub IsFast : Configuration → ExportRecord → ℕ → ℕ → Bool → Type 0
+IsFast c e offset length true = AreOnZeroLines c e offset length
+IsFast c e offset length false = HasSlowByte c e offset length
+
+-- a WRITE_ZEROES with FAST_ZERO: it isn't supported, and nothing is written, unless the bytes are on `zero` lines
+abbrev pub ServesFastZero : ExportRecord → World → ℕ → ℕ → Bool → RequestOutcome → World → Type 0
+ServesFastZero e w offset length fua outcome w' =
+    (ServesZero e w offset length fua outcome w' × AreOnZeroLines w.stack.config e offset length)
+    ⊎ (RefusesRequest w NotSupported outcome w' × HasSlowByte w.stack.config e offset length)
+
 -- ---- block status
 
 -- how many bytes from an offset on are read for a status at most: up to a multiple of 256 KiB, or of 64 KiB for one extent
@@ -181,10 +195,6 @@ TellsStatus e w offset count one (Err error) w' = (error ≡ no_memory) × Stays
 
 -- ---- requests
 
--- an error without effect
-abbrev pub RefusesRequest : World → RequestError → RequestOutcome → World → Type 0
-RefusesRequest w error outcome w' = (outcome ≡ Err (Refused error)) × (w' ≡ w)
-
 -- the allocation of the sectors that a byte range touches was refused, and nothing was done
 abbrev pub LacksSectors : World → ℕ → List ℕ → RequestOutcome → World → Type 0
 LacksSectors w offset bytes outcome w' = (outcome ≡ Err no_memory) × (w' ≡ w) × IsOutOfMemory (512 * touched offset (length bytes))
@@ -198,8 +208,10 @@ abbrev pub ServesCommand : ExportRecord → World → Result Command RequestErro
 ServesCommand e w (Err error) payload outcome w' = RefusesRequest w error outcome w'
 ServesCommand e w (Ok (Read offset length)) payload outcome w' = AnswersRead e w offset length outcome w'
 ServesCommand e w (Ok (Write offset length fua)) payload outcome w' = Settles fua (ReportsSpace (WritesGiven e w offset payload)) outcome w'
-ServesCommand e w (Ok (Zero offset length fua)) payload outcome w' = ServesZero e w offset length fua outcome w'
+ServesCommand e w (Ok (Zero offset length fua false)) payload outcome w' = ServesZero e w offset length fua outcome w'
+ServesCommand e w (Ok (Zero offset length fua true)) payload outcome w' = ServesFastZero e w offset length fua outcome w'
 ServesCommand e w (Ok Hint) payload outcome w' = Stays w outcome w'
+ServesCommand e w (Ok (Cache offset length)) payload outcome w' = ServesCache e w offset length outcome w'
 ServesCommand e w (Ok Flush) payload outcome w' = Flushes w outcome w'
 ServesCommand e w (Ok (Status offset length one)) payload outcome w' = TellsStatus e w offset length one outcome w'
 

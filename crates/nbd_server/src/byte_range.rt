@@ -3,7 +3,8 @@ ghost use Rattle.std.specs.Prelude.{◌≡◌, ◌<◌, ◌≤◌, ◌+◌, ◌*
 ghost use Rattle.nbd_protocol.specs.Exports.{export_record};
 ghost use Rattle.nbd_server.specs.Premises.{AreBytesOf, HaveSizes, WritesFrom};
 ghost use Rattle.nbd_server.specs.Status.{touched};
-ghost use Rattle.nbd_server.specs.Transmission.{AreEndsRead, FailsToReadEnds, IsPartInside, ReadsExport, WritesAny, reply_data, data_outcome, no_bytes};
+ghost use Rattle.nbd_server.specs.Reads.{ReadsExport};
+ghost use Rattle.nbd_server.specs.Transmission.{AreEndsRead, FailsToReadEnds, IsPartInside, WritesAny, reply_data, data_outcome, no_bytes};
 
 use crate::failure::Failure;
 use crate::fetch::fetch;

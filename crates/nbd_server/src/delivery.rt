@@ -6,7 +6,7 @@ ghost use Rattle.nbd_protocol.specs.Chunks.{hole_chunk};
 ghost use Rattle.nbd_server.specs.Content.{TellsContent};
 ghost use Rattle.nbd_server.specs.Premises.{AreBytesOf, ArePieceBytes, IsDeliveryRest, ReadsTo};
 ghost use Rattle.nbd_server.specs.Status.{touched};
-ghost use Rattle.nbd_server.specs.Transmission.{FailsToReadBytes};
+ghost use Rattle.nbd_server.specs.Reads.{FailsToReadBytes};
 ghost use Rattle.nbd_server.specs.Delivery.{AreNextBytes, IsDeliveryPiece, IsReadPiece, IsStuck, SendsPiece, WritesDelivery, WritesPiece, delivery_of, has_df};
 
 use crate::byte_range::touched;
@@ -14,7 +14,7 @@ use crate::content::say_content;
 use crate::error_text::ErrorText;
 use crate::failure::Failure;
 use crate::fetch::read_into;
-use crate::first_faults::SectorFault;
+use crate::known_faults::SectorFault;
 use crate::piece::piece_sectors;
 use crate::progress::Progress;
 use crate::room::Room;
@@ -78,16 +78,16 @@ impl Delivery {
         }
     }
 
-    // The offset of the next byte in the export.
-    fn at(self, progress: Progress) -> u64
+    /// Returns the offset of the next byte in the export.
+    pub(crate) fn at(self, progress: Progress) -> u64
         requires { IsDeliveryRest self progress }
         ensures { result ≡ self.offset + progress.done }
     {
         self.offset + u64::from(progress.done)
     }
 
-    // The size of the next piece.
-    fn piece_len(self, config: &Config, export: &Export<'_>, progress: Progress) -> u32
+    /// Returns the size of the next piece.
+    pub(crate) fn piece_len(self, config: &Config, export: &Export<'_>, progress: Progress) -> u32
         requires bytes { AreBytesOf config.now (export_record export.now) self.offset self.count }
         requires some { progress.done < self.count }
         ensures { IsDeliveryPiece config.now export.now.device.0 self progress result }
@@ -160,8 +160,8 @@ fn read_to<D: BlockDev>(
     )
 }
 
-// Reads the sectors that a piece touches into the beginning of the buffer.
-fn read_piece<D: BlockDev>(
+/// Reads the sectors that a piece touches into the beginning of the buffer.
+pub(crate) fn read_piece<D: BlockDev>(
     room: &mut Room,
     queue: &mut Queue<D>,
     export: &Export<'_>,
@@ -203,14 +203,14 @@ fn deliver_piece<D: BlockDev, W: Write>(
             Ok(Ok(progress.after(size)))
         }
         Err(error) => {
-            let sectors = touched(at, size) as u64;
-            if sectors > 1 {
-                return Ok(Ok(progress.again(size, sectors)));
-            }
-            let text = ErrorText::of(error);
+            let lost = match progress.again(at, size, error) {
+                Ok(next) => return Ok(Ok(next)),
+                Err(lost) => lost,
+            };
+            let text = ErrorText::of(lost);
             let told = text.as_bytes();
-            say_error_at(writer, delivery.cookie, at, error.reported(), told)?;
-            Ok(Err(error))
+            say_error_at(writer, delivery.cookie, at, lost.reported(), told)?;
+            Ok(Err(lost))
         }
     }
 }

@@ -26,8 +26,8 @@ impl Model for ErrorText {
     ghost invariant = { λ t. t.count ≤ 80 };
 }
 
-// Puts bytes after the first `at` bytes of the room, and returns how many there are then.
-fn append(room: &mut [u8], at: usize, bytes: &[u8]) -> usize
+/// Puts bytes after the first `at` bytes of the room, and returns how many there are then.
+pub(crate) fn append(room: &mut [u8], at: usize, bytes: &[u8]) -> usize
     requires { at + length bytes.now ≤ length room.old }
     ensures count { result ≡ at + length bytes.now }
     ensures text { take result room.new ≡ take at room.old ++ bytes.now }
@@ -60,7 +60,7 @@ fn put_text(room: &mut [u8], error: Failure) -> usize
 {
     match error.block() {
         None => append(room, 0, error.text().as_bytes()),
-        Some(block) => put_block(room, block),
+        Some(block) => put_block(room, block.number),
     }
 }
 

@@ -3,7 +3,8 @@ ghost use Rattle.std.specs.Prelude.{◌≡◌, ◌<◌, ◌≤◌, length};
 ghost use Rattle.stack_rules.specs.Names.{mapped, size};
 ghost use Rattle.nbd_server.specs.Failures.{failure_by, fault_of, fault_text, no_memory, plain_text, put_failure, read_failure, refusal_text, reported_error, told_block, write_failure};
 
-use crate::first_faults::SectorFault;
+use crate::data_block::DataBlock;
+use crate::known_faults::SectorFault;
 use crate::lost::{LostPiece, lost_block};
 use allocation::OutOfMemory;
 use block_device::BlockDev;
@@ -81,7 +82,7 @@ impl Failure {
     }
 
     /// Returns the data block that fails verification, if it is known.
-    pub(crate) fn block(self) -> Option<u64>
+    pub(crate) fn block(self) -> Option<DataBlock>
         ensures { result ≡ told_block self }
     {
         match self {

@@ -5,9 +5,10 @@ ghost use Rattle.nbd_server.specs.FaultLines.{IsPrinted, TellsMet, block_end, fa
 ghost use Rattle.nbd_server.specs.FaultLog.{met_fault, next_log};
 ghost use Rattle.program_io.specs.Counted.{Writes};
 
+use crate::data_block::DataBlock;
 use crate::fault_log::FaultLog;
-use crate::first_faults::FirstFault;
 use crate::journal::Journal;
+use crate::known_faults::ExportFault;
 use crate::session_log::SessionLog;
 use nbd_protocol::{Export, Phase, export_at};
 use program_io::{Counted, WriteFault};
@@ -15,7 +16,7 @@ use stack_meaning::IoFault;
 use std::io::Write;
 
 /// Returns the fault of a request, after its message in a phase led to the next one. Other messages have none.
-pub(crate) fn served_fault(phase: Phase, next: Phase, log: &SessionLog) -> Option<FirstFault>
+pub(crate) fn served_fault(phase: Phase, next: Phase, log: &SessionLog) -> Option<ExportFault>
     ensures { result ≡ served_fault phase next log.now }
 {
     match phase {
@@ -33,7 +34,7 @@ pub(crate) fn tell_met<E: Write, J: Journal>(
     exports: &[Export<'_>],
     log: &mut FaultLog,
     journal: &J,
-    met: Option<FirstFault>,
+    met: Option<ExportFault>,
 )
     ensures { TellsMet E.contents (J.shows journal.now) (export_records exports.now) log.old log.new errors.old errors.new met }
 {
@@ -49,7 +50,7 @@ fn tell_fault<E: Write>(
     exports: &[Export<'_>],
     log: &mut FaultLog,
     seconds: u64,
-    fault: FirstFault,
+    fault: ExportFault,
 )
     ensures log { log.new ≡ next_log (met_fault seconds fault) log.old }
     ensures printed { IsPrinted E.contents errors.old errors.new (met_lines (export_records exports.now) (met_fault seconds fault) log.old) }
@@ -72,7 +73,7 @@ fn say_lines<W: Write>(
     priorities: bool,
     exports: &[Export<'_>],
     count: u64,
-    fault: Option<FirstFault>,
+    fault: Option<ExportFault>,
 ) -> Result<(), WriteFault>
     ensures { Writes W.contents writer.old writer.new (said_lines priorities (export_records exports.now) count fault) result }
 {
@@ -107,7 +108,7 @@ fn say_line<W: Write>(
     writer: &mut Counted<W>,
     priorities: bool,
     exports: &[Export<'_>],
-    fault: Option<FirstFault>,
+    fault: Option<ExportFault>,
 ) -> Result<(), WriteFault>
     ensures { Writes W.contents writer.old writer.new (said_line priorities (export_records exports.now) fault) result }
 {
@@ -123,7 +124,7 @@ fn say_journal_line<W: Write>(
     writer: &mut Counted<W>,
     priorities: bool,
     exports: &[Export<'_>],
-    fault: &FirstFault,
+    fault: &ExportFault,
 ) -> Result<(), WriteFault>
     ensures { Writes W.contents writer.old writer.new (journal_line priorities (export_records exports.now) fault.now) result }
 {
@@ -147,7 +148,7 @@ fn say_priority<W: Write>(writer: &mut Counted<W>, priorities: bool) -> Result<(
 fn say_fault_line<W: Write>(
     writer: &mut Counted<W>,
     exports: &[Export<'_>],
-    fault: &FirstFault,
+    fault: &ExportFault,
 ) -> Result<(), WriteFault>
     ensures { Writes W.contents writer.old writer.new (fault_line (export_records exports.now) fault.now) result }
 {
@@ -160,7 +161,7 @@ fn say_fault_line<W: Write>(
 fn say_named_fault<W: Write>(
     writer: &mut Counted<W>,
     exports: &[Export<'_>],
-    fault: &FirstFault,
+    fault: &ExportFault,
 ) -> Result<(), WriteFault>
     ensures { Writes W.contents writer.old writer.new (named_fault (export_records exports.now) fault.now) result }
 {
@@ -170,7 +171,7 @@ fn say_named_fault<W: Write>(
 
 // `: sector S: KIND`, or `: flush: KIND`
 #[tactic(auto, unfolding(crate::specs::FaultLines::fault_facts))]
-fn say_fault_facts<W: Write>(writer: &mut Counted<W>, fault: &FirstFault) -> Result<(), WriteFault>
+fn say_fault_facts<W: Write>(writer: &mut Counted<W>, fault: &ExportFault) -> Result<(), WriteFault>
     ensures { Writes W.contents writer.old writer.new (fault_facts fault.now) result }
 {
     say_place(writer, fault.sector)?;
@@ -191,18 +192,20 @@ fn say_place<W: Write>(writer: &mut Counted<W>, sector: Option<u64>) -> Result<(
 fn say_kind_at<W: Write>(
     writer: &mut Counted<W>,
     kind: &str,
-    block: Option<u64>,
+    block: Option<DataBlock>,
 ) -> Result<(), WriteFault>
     ensures { Writes W.contents writer.old writer.new (kind.now ++ block_end block) result }
 {
     match block {
-        Some(block) => writer.print(format_args!("{kind}, data block {block}\n")),
+        Some(DataBlock { number, .. }) => writer.print(format_args!(
+            "{kind}, data block {number}\n"
+        )),
         None => writer.print(format_args!("{kind}\n")),
     }
 }
 
 // `KIND`, with the number of the backing device that failed, or the data block that fails verification
-fn say_kind<W: Write>(writer: &mut Counted<W>, fault: &FirstFault) -> Result<(), WriteFault>
+fn say_kind<W: Write>(writer: &mut Counted<W>, fault: &ExportFault) -> Result<(), WriteFault>
     ensures { Writes W.contents writer.old writer.new (kind_text fault.now) result }
 {
     let kind = fault.name();

@@ -2,7 +2,7 @@
 ghost use Rattle.std.specs.Prelude.{◌≡◌};
 ghost use Rattle.nbd_server.specs.FaultLog.{begun_log, counted_fault, ended_count, has_line, is_minute_over, new_log, said_fault};
 
-use crate::first_faults::{FirstFault, FirstFaults};
+use crate::known_faults::{ExportFault, KnownFaults};
 use crate::tally::one_more;
 
 // The seconds from the beginning of a minute to the next one.
@@ -20,7 +20,7 @@ pub(crate) struct FaultLog {
     /// How many faults had a line in this minute.
     pub(crate) lines: u64,
     /// The faults that had a line last, up to 60. They are forgotten when one more has a line.
-    pub(crate) known: FirstFaults,
+    pub(crate) known: KnownFaults,
     /// How many faults had no line in this minute.
     pub(crate) left_out: u64,
 }
@@ -34,7 +34,7 @@ impl FaultLog {
             priorities,
             begun: 0,
             lines: 0,
-            known: FirstFaults::none(),
+            known: KnownFaults::none(),
             left_out: 0,
         }
     }
@@ -62,14 +62,14 @@ impl FaultLog {
     }
 
     // Whether a fault has a line.
-    fn has_line(&self, fault: FirstFault) -> bool
+    fn has_line(&self, fault: ExportFault) -> bool
         ensures { result ≡ has_line fault self.now }
     {
         self.lines < MOST && !self.known.has(fault)
     }
 
     /// Counts a fault, and returns it if it has a line.
-    pub(crate) fn count(&mut self, fault: FirstFault) -> Option<FirstFault>
+    pub(crate) fn count(&mut self, fault: ExportFault) -> Option<ExportFault>
         ensures said { result ≡ said_fault fault self.old }
         ensures log { self.new ≡ counted_fault fault self.old }
     {

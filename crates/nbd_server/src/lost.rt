@@ -3,7 +3,7 @@ ghost use Rattle.std.specs.Prelude.{◌≡◌, ◌<◌};
 ghost use Rattle.stack_rules.specs.Names.{mapped, size};
 ghost use Rattle.nbd_server.specs.Failures.{lost, lost_block};
 
-use crate::data_block::sector_block;
+use crate::data_block::{DataBlock, sector_block};
 use request_queue::PieceFault;
 use stack_config::{Config, DevId};
 use stack_meaning::{Fault, IoFault};
@@ -15,12 +15,12 @@ pub(crate) struct LostPiece {
     pub(crate) count: u64,
     pub(crate) fault: IoFault,
     /// The data block of a sector that was read alone, if it fails verification.
-    pub(crate) block: Option<u64>,
+    pub(crate) block: Option<DataBlock>,
 }
 
 impl LostPiece {
     /// Returns the piece, with that block.
-    pub(crate) fn of(piece: PieceFault, block: Option<u64>) -> LostPiece
+    pub(crate) fn of(piece: PieceFault, block: Option<DataBlock>) -> LostPiece
         ensures { result ≡ lost block piece }
     {
         LostPiece {
@@ -33,7 +33,7 @@ impl LostPiece {
 }
 
 /// Returns the data block of a sector that was read alone, if it fails verification.
-pub(crate) fn lost_block(config: &Config, device: DevId, piece: PieceFault) -> Option<u64>
+pub(crate) fn lost_block(config: &Config, device: DevId, piece: PieceFault) -> Option<DataBlock>
     requires { piece.first < size config.now (mapped device.0) }
     ensures { result ≡ lost_block config.now device.0 piece }
 {

@@ -1,9 +1,13 @@
 //! How far the reply to a READ has come.
-ghost use Rattle.std.specs.Prelude.{◌≡◌, ◌<◌, ◌+◌, ◌^◌};
+ghost use Rattle.std.specs.Prelude.{◌≡◌, ◌<◌, ◌≤◌, ◌+◌, ◌^◌, IfErr, IfOk};
 ghost use Rattle.nbd_server.specs.Delivery.{at_first, next_most, progress_after, progress_again};
+ghost use Rattle.nbd_server.specs.Status.{touched};
+
+use crate::byte_range::touched;
+use crate::failure::Failure;
 
 // The most sectors that a piece touches.
-const MOST_SECTORS: u64 = 512;
+const MOST_SECTORS: u64 = 2048;
 
 // The most sectors that a piece touches if a larger one couldn't be read.
 const FEW_SECTORS: u64 = 8;
@@ -54,23 +58,28 @@ impl Progress {
         }
     }
 
-    /// The progress after a piece of `size` bytes in so many sectors couldn't be read.
-    pub(crate) fn again(self, size: u32, sectors: u64) -> Progress
+    /// The progress after a piece of `size` bytes from `at` on couldn't be read, or the failure if the piece lies in one sector.
+    pub(crate) fn again(self, at: u64, size: u32, error: Failure) -> Result<Progress, Failure>
         requires { self.done + size < 2 ^ 32 }
-        ensures { result ≡ progress_again self size sectors }
+        ensures ok { IfOk result (λ next. (1 < touched at size) × (next ≡ progress_again self size (touched at size))) }
+        ensures err { IfErr result (λ lost. (touched at size ≤ 1) × (lost ≡ error)) }
     {
+        let sectors = touched(at, size) as u64;
+        if sectors <= 1 {
+            return Err(error);
+        }
         let end = self.done + size;
         if sectors > FEW_SECTORS {
-            return Progress {
+            return Ok(Progress {
                 done: self.done,
                 slow: end,
                 single: self.single,
-            };
+            });
         }
-        Progress {
+        Ok(Progress {
             done: self.done,
             slow: self.slow,
             single: end,
-        }
+        })
     }
 }

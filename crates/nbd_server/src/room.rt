@@ -3,8 +3,8 @@ ghost use Rattle.std.specs.Prelude.{◌≡◌, ◌≤◌, ◌+◌, drop, take};
 
 use std::alloc::Global;
 
-// The most bytes of the sectors that a piece touches: 256 KiB and the rest of two sectors.
-const MOST_BYTES: usize = 262_656;
+// The most bytes of the sectors that a piece touches: 1 MiB and the rest of two sectors.
+const MOST_BYTES: usize = 1_049_088;
 
 /// An allocator, and a buffer for the longest piece.
 #[derive(Drop)]

@@ -10,9 +10,9 @@ ghost use Rattle.nbd_protocol.specs.Streaming.{HasRead, HasWritten, result_fault
 ghost use Rattle.nbd_protocol.specs.declared.phase.Phase.TheVariants.{Greeted, Over};
 
 use crate::fault_lines::{served_fault, tell_met, tell_more};
-use crate::first_faults::FirstFault;
 use crate::haggling::{take_flags, take_option};
 use crate::journal::{Journal, NoJournal};
+use crate::known_faults::ExportFault;
 use crate::log_output::LogOutput;
 use crate::session::Session;
 use crate::session_end::SessionEnd;
@@ -64,7 +64,7 @@ fn take_message<D: SyncDev, R: Read, W: Write>(
 }
 
 // The fault of the request of a message that led to that phase, if it was one and had a fault.
-fn turn_fault(phase: Phase, next: Option<Phase>, log: &SessionLog) -> Option<FirstFault>
+fn turn_fault(phase: Phase, next: Option<Phase>, log: &SessionLog) -> Option<ExportFault>
     ensures { result ≡ turn_fault phase next log.now }
 {
     match next {
@@ -135,8 +135,8 @@ fn converse<D: SyncDev, R: Read, W: Write, E: Write, J: Journal>(
 /// Serves one of the exports to a client, until the client ends the session or goes away between two messages. Returns which of the
 /// two it did.
 ///
-/// Each reply is flushed before the next call of the reader. `log` gets the tally of the requests whose replies were flushed, the
-/// first 60 faults among them, one a sector or data block and one of a sync for each export, and the fault of the last one.
+/// Each reply is flushed before the next call of the reader. `log` gets the tally of the requests whose replies were flushed, and the
+/// fault of the last one.
 ///
 /// # Errors
 ///

@@ -1,17 +1,15 @@
 //! What a session keeps of its requests.
 ghost use Rattle.std.specs.Prelude.{◌≡◌};
-ghost use Rattle.nbd_server.specs.Logs.{first_fault, logged, no_log};
+ghost use Rattle.nbd_server.specs.Logs.{export_fault, logged, no_log};
 
-use crate::first_faults::{FirstFault, FirstFaults, SectorFault};
+use crate::known_faults::{ExportFault, SectorFault};
 use crate::tally::Tally;
 
-/// The tally of the requests that were answered, the first faults among them, one a sector or data block and one of a sync for each
-/// export, and the fault of the last one, if it had one.
+/// The tally of the requests that were answered, and the fault of the last one, if it had one.
 #[derive(Drop)]
 pub struct SessionLog {
     pub tally: Tally,
-    pub first: FirstFaults,
-    pub last: Option<FirstFault>,
+    pub last: Option<ExportFault>,
 }
 
 impl SessionLog {
@@ -21,7 +19,6 @@ impl SessionLog {
     {
         SessionLog {
             tally: Tally::none(),
-            first: FirstFaults::none(),
             last: None,
         }
     }
@@ -36,9 +33,8 @@ impl SessionLog {
                 self.last = None;
             }
             Some(at) => {
-                let fault = first_fault(place, at);
+                let fault = export_fault(place, at);
                 self.tally = self.tally.count(bytes, true, at.full);
-                self.first.keep(fault);
                 self.last = Some(fault);
             }
         }
@@ -46,10 +42,10 @@ impl SessionLog {
 }
 
 // The fault of a request of the export at an index.
-fn first_fault(place: usize, met: SectorFault) -> FirstFault
-    ensures { result ≡ first_fault place met }
+fn export_fault(place: usize, met: SectorFault) -> ExportFault
+    ensures { result ≡ export_fault place met }
 {
-    FirstFault {
+    ExportFault {
         place,
         sector: met.sector,
         block: met.block,

@@ -3,7 +3,7 @@ ghost use Rattle.std.specs.Prelude.{◌≡◌};
 ghost use Rattle.nbd_server.specs.Logs.{logged, no_log};
 ghost use Rattle.nbd_protocol.specs.declared.phase.Phase.TheVariants.{Greeted};
 
-use crate::first_faults::SectorFault;
+use crate::known_faults::SectorFault;
 use crate::room::Room;
 use crate::session_log::SessionLog;
 use nbd_protocol::Phase;

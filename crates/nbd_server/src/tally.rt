@@ -39,6 +39,7 @@ pub(crate) fn moved_bytes(command: Result<Command, RequestError>) -> u32
         Ok(Command::Write { length, .. }) => length,
         Ok(Command::Zero { .. }) => 0,
         Ok(Command::Hint) => 0,
+        Ok(Command::Cache { .. }) => 0,
         Ok(Command::Flush) => 0,
         Ok(Command::Status { .. }) => 0,
         Err(_) => 0,

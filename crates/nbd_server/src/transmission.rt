@@ -9,20 +9,24 @@ ghost use Rattle.nbd_server.specs.Logs.{outcome_fault};
 ghost use Rattle.nbd_server.specs.Premises.{AreBytesOf, IsBare};
 ghost use Rattle.nbd_server.specs.Service.{EndsTurn};
 ghost use Rattle.nbd_protocol.specs.Streaming.{HasRead, HasWritten, result_fault};
-ghost use Rattle.nbd_server.specs.Transmission.{AnswersRead, AreExtentsTold, FallsShort, Flushes, Handles, IsSendable, ServesCommand, ServesZero, Settles, Stays, StaysOrReads, TellsStatus, WritesGiven, data_outcome, no_bytes};
+ghost use Rattle.nbd_server.specs.Undivided.{AnswersRead};
+ghost use Rattle.nbd_server.specs.Transmission.{AreExtentsTold, FallsShort, Flushes, Handles, IsSendable, ServesCommand, ServesZero, Settles, Stays, StaysOrReads, TellsStatus, WritesGiven, data_outcome, no_bytes};
 ghost use Rattle.nbd_protocol.specs.declared.phase.Phase.TheVariants.{Serving};
 
-use crate::byte_range::{read_bytes, touched, write_bytes, write_zeros};
+use crate::byte_range::{touched, write_bytes, write_zeros};
 use crate::delivery::{Delivery, deliver};
 use crate::extent::{ExtentKind, is_same_kind};
 use crate::failure::Failure;
-use crate::first_faults::SectorFault;
-use crate::locating::located;
+use crate::fast_zero::zero_fast;
+use crate::known_faults::SectorFault;
+use crate::prefetch::prefetch;
 use crate::read_status::read_status;
 use crate::reply::{Data, say_reply};
+use crate::room::Room;
 use crate::session_state::SessionState;
 use crate::status::{bytes_at, status_of};
 use crate::tally::moved_bytes;
+use crate::undivided::read_undivided;
 use allocation::OutOfMemory;
 use block_device::{BlockDev, SyncDev};
 use nbd_protocol::{
@@ -35,25 +39,6 @@ use std::alloc::Global;
 use std::io::{Read, Write};
 
 const MAGIC: u32 = 0x2560_9513;
-
-// Reads at most as many bytes as one reply can hold. If they can't be read, the failure names the sector.
-fn read<D: BlockDev>(
-    alloc: Global,
-    queue: &mut Queue<D>,
-    export: &Export<'_>,
-    offset: u64,
-    len: u32,
-) -> Result<Data, Failure>
-    requires bytes { AreBytesOf queue.old.stack.config (export_record export.now) offset len }
-    requires few { len ≤ most_length }
-    ensures value { AnswersRead (export_record export.now) queue.old offset len (data_outcome result) queue.new }
-    ensures inside { IsSendable result }
-{
-    match read_bytes(alloc, queue, export, offset, len) {
-        Ok(data) => Ok(data),
-        Err(error) => Err(located(queue, export, error)),
-    }
-}
 
 // Receives the payload of a WRITE, and writes it.
 fn take_write<D: BlockDev, R: Read>(
@@ -104,8 +89,8 @@ fn settle<D: SyncDev>(alloc: Global, queue: &mut Queue<D>, fua: bool) -> Result<
     Ok(Data::none(alloc))
 }
 
-// Serves a WRITE_ZEROES.
-fn zero<D: SyncDev>(
+/// Serves a WRITE_ZEROES.
+pub(crate) fn zero<D: SyncDev>(
     alloc: Global,
     queue: &mut Queue<D>,
     export: &Export<'_>,
@@ -169,7 +154,7 @@ fn tell_status<D: BlockDev>(
 
 // Serves a command without payload.
 fn serve_bare<D: SyncDev>(
-    alloc: Global,
+    room: &mut Room,
     queue: &mut Queue<D>,
     export: &Export<'_>,
     command: Command,
@@ -181,26 +166,34 @@ fn serve_bare<D: SyncDev>(
     ensures inside { IsSendable result }
 {
     match command {
-        Command::Read { offset, length } => read(alloc, queue, export, offset, length),
-        Command::Flush => flush(alloc, queue),
+        Command::Read { offset, length } => read_undivided(room, queue, export, offset, length),
+        Command::Flush => flush(room.alloc, queue),
         Command::Status {
             offset,
             length,
             one,
-        } => tell_status(alloc, queue, export, offset, length, one),
-        Command::Hint => Ok(Data::none(alloc)),
+        } => tell_status(room.alloc, queue, export, offset, length, one),
+        Command::Hint => Ok(Data::none(room.alloc)),
+        Command::Cache { offset, length } => prefetch(room, queue, export, offset, length),
         Command::Zero {
             offset,
             length,
             fua,
-        } => zero(alloc, queue, export, offset, length, fua),
+            fast: false,
+        } => zero(room.alloc, queue, export, offset, length, fua),
+        Command::Zero {
+            offset,
+            length,
+            fua,
+            fast: true,
+        } => zero_fast(room.alloc, queue, export, offset, length, fua),
         Command::Write { .. } => unreachable!(),
     }
 }
 
 // Serves a request. The payload of a WRITE hasn't been received yet.
 fn serve_request<D: SyncDev, R: Read>(
-    alloc: Global,
+    room: &mut Room,
     queue: &mut Queue<D>,
     export: &Export<'_>,
     agreed: Agreement,
@@ -224,13 +217,13 @@ fn serve_request<D: SyncDev, R: Read>(
             offset,
             length,
             fua,
-        } => match take_write(alloc, queue, export, offset, length, reader)? {
-            Ok(()) => Ok(settle(alloc, queue, fua)),
+        } => match take_write(room.alloc, queue, export, offset, length, reader)? {
+            Ok(()) => Ok(settle(room.alloc, queue, fua)),
             Err(error) => Ok(Err(error.of_write(queue.stack()))),
         },
         _ => {
             skip(reader, header.payload_len())?;
-            Ok(serve_bare(alloc, queue, export, command))
+            Ok(serve_bare(room, queue, export, command))
         }
     }
 }
@@ -283,7 +276,7 @@ pub(crate) fn take_request<D: SyncDev, R: Read, W: Write>(
         }
         None => {}
     }
-    let outcome = serve_request(state.room.alloc, queue, export, agreed, header, reader)?;
+    let outcome = serve_request(&mut state.room, queue, export, agreed, header, reader)?;
     let met = outcome_fault(&outcome);
     say_reply(writer, agreed, header, outcome)?;
     writer.flush()?;

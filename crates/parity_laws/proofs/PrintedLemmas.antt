@@ -1,5 +1,5 @@
 -- A printed line has as much parity as a load asks for.
-use Rattle.std.proofs.Common.{◌≡◌, ◌∙◌, ◌≤◌, ◌==◌, ◌||◌, ℕ, List, Some, not, nat_lt, false, ap, refl, subst, sym, arith}
+use Rattle.std.proofs.Common.{◌≡◌, ◌∙◌, ◌≤◌, ◌==◌, ◌||◌, ℕ, List, None, Some, not, nat_lt, false, ap, refl, subst, sym, arith}
 use Rattle.std.specs.Prelude.{◌+◌}
 use Rattle.std.proofs.lemmas.Bool.Decides.{nat_tests}
 use Rattle.dm_table.specs.declared.parity.Parity.{Parity}
@@ -38,6 +38,7 @@ printed tree names root start = record {
   corruption = Fail;
   in_tasklet = false;
   parity = names.parity;
+  signature_key = None;
 }
 
 pub printed-loaded : PrintedParityIsLoaded

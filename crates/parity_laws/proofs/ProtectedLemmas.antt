@@ -1,5 +1,5 @@
 -- The rounds of an image with parity are the former rounds of a line with that parity.
-use Rattle.std.proofs.Common.{◌≡◌, ℕ, ◌+◌, ◌-◌, ◌*◌, ◌/◌, ◌%◌, ◌<◌, ◌≤◌, nat_lt, List, [], length, inl, inr, sym, ap, ◌∙◌, arith, bit_xor}
+use Rattle.std.proofs.Common.{◌≡◌, ℕ, ◌+◌, ◌-◌, ◌*◌, ◌/◌, ◌%◌, ◌<◌, ◌≤◌, nat_lt, List, [], length, Ok, inl, inr, sym, ap, ◌∙◌, arith, bit_xor}
 use Rattle.std.specs.Prelude.{slice_index}
 use Rattle.std.specs.Int.{div_ceil}
 use Rattle.std.specs.List.{slice_index_or}
@@ -13,10 +13,12 @@ use Rattle.reed_solomon.specs.Sums.{part_sum}
 use Rattle.reed_solomon.proofs.CodeLemmas.{total-same}
 use Rattle.dm_table.specs.declared.parity.Parity.{Parity}
 use Rattle.dm_table.specs.declared.verity.Verity.{Verity}
-use Rattle.stack_rules.specs.Trees.{block_sectors, round_count}
+use Rattle.tree_shape.specs.Shape.{ancestor}
+use Rattle.stack_rules.specs.Trees.{block_sectors, round_count, tree_of}
+use Rattle.stack_meaning.specs.Blocks.{covered_hash}
 use Rattle.stack_config.proofs.lemmas.ParityLineLemmas.{parity-line}
-use Rattle.stack_meaning.specs.Spares.{IsFormerRound, former_byte, place_number}
-use Rattle.stack_engine.specs.DamagedData.{DamagedDataIsRead}
+use Rattle.stack_meaning.specs.Spares.{BlockSources, IsFormerRound, former_byte, place_number}
+use Rattle.stack_engine.specs.DamagedData.{DamagedDataIsRead, HasLostOne, line_sources, tree_block}
 use Rattle.stack_engine.proofs.lemmas.FormattedLemmas.{block-low, facts, line-is}
 use Rattle.verity_format.specs.Blocks.{block_at}
 use Rattle.verity_format.proofs.lemmas.SizeLemmas.{block-inside}
@@ -24,7 +26,7 @@ use Rattle.verity_format.proofs.lemmas.RunLemmas.{block-sized}
 use Rattle.fec_area.specs.declared.layout.Layout.{Layout}
 use Rattle.fec_area.specs.Layouts.{IsLayout, code_rounds, covered, covered_blocks, message_byte}
 use Rattle.fec_area.specs.Sums.{RoundsSumToZeros}
-use Rattle.parity_laws.specs.ProtectedLines.{IsLayoutOfLine, IsProtectedImage, ProtectedDataIsRead, ProtectedImage, ProtectedRoundsAreFormer, protected_block, protected_data, protected_parity}
+use Rattle.parity_laws.specs.ProtectedLines.{HasKeptRound, IsLayoutOfLine, IsProtectedImage, ProtectedDataIsRead, ProtectedImage, ProtectedRoundsAreFormer, protected_block, protected_data, protected_parity}
 
 -- ---- covered blocks
 
@@ -98,27 +100,40 @@ rounds-some p few some = elim (cases_lt 0 (round_count p)) [
       absurd (omega (arith, nothing, (div_ceil_times p.blocks (255 - p.roots) (omega (arith, few))).0, some))
 ]
 
+-- covered block j, which its line reads by the others
+module _ (v : Verity) (p : Parity) (l : Layout) (f : ProtectedImage) (from : BlockSources) (law : RoundsSumToZeros) (laid : IsLayoutOfLine v p l) (image : IsProtectedImage l f) (some : 0 < round_count p) where
+  one-lost : (block : List ℕ) (j : ℕ) → HasKeptRound v p l f from block j → HasLostOne v p from block j
+  one-lost block j kept = elim kept [
+    | inl own ↦ inl own
+    | inr beside ↦
+        inr (record {
+          former = protected_block l f;
+          own = beside.0;
+          parity = protected_parity l f (j % round_count p);
+          round = round-former v p l f laid law image (j % round_count p) (mod-lt j some);
+          whole = beside.1;
+        })
+  ]
+
 pub protected-read : RoundsSumToZeros → DamagedDataIsRead → ProtectedDataIsRead
 protected-read law damaged c loaded images whole d s k line v lies p l f is kept =
     let i : ℕ = (s - line.start) / block_sectors v in
+    let from = line_sources c images v in
     let low = block-low c loaded images whole d s k line v lies in
     let line_facts = facts c loaded images whole d s k line v lies in
     let parity = parity-line c d k line v p loaded (line-is c loaded images whole d s k line v lies) lies.has is.has line_facts.1 line_facts.2.hash_named in
     let inside : i < p.blocks = omega (arith, low, parity.1.covers) in
-    let few = parity.1.grammar.most_roots in
-    let some : 0 < round_count p = rounds-some p few (omega (arith, inside)) in
-    let own : protected_block l f i ≡ slice_index_or (protected_data v f) i [] =
+    let some : 0 < round_count p = rounds-some p parity.1.grammar.most_roots (omega (arith, inside)) in
+    let block : List ℕ = slice_index_or (protected_data v f) i [] in
+    let own : protected_block l f i ≡ block =
     data-covered l f.data_image f.hash_image i (omega (arith, is.laid.data_blocks, low))
     ∙ ap (λ n. block_at f.data_image n i) is.laid.size
     ∙ sym (get_or-map-range_with_len (block_at f.data_image v.data_block) 0 v.blocks i i [] low (omega arith)) in
+    let here : HasKeptRound v p l f from block i = elim kept.block [ inl same ↦ inl (same ∙ ap Ok own) | inr beside ↦ inr (own, beside) ] in
     damaged c loaded images whole d s k line v lies p (protected_data v f) (record {
       has = is.has;
-      tree = is.tree;
-      lost = record {
-        former = protected_block l f;
-        own = own;
-        parity = protected_parity l f (i % round_count p);
-        round = round-former v p l f is.laid law is.protected (i % round_count p) (mod-lt i some);
-        one = kept;
-      };
+      sized = is.sized;
+      root_is = is.root_is;
+      block = one-lost v p l f from law is.laid is.protected some block i here;
+      path = λ n inside. one-lost v p l f from law is.laid is.protected some (tree_block v (protected_data v f) n i) (covered_hash v n (ancestor (tree_of v) (n + 1) i)) (kept.path n inside);
     })

@@ -2,18 +2,22 @@
 use Rattle.std.specs.Prelude.{◌≡◌, ◌⊎◌, ℕ, ◌+◌, ◌-◌, ◌*◌, ◌/◌, ◌%◌, ◌<◌, ◌≤◌, List, [], Some, Ok, All, length}
 use Rattle.std.specs.List.{slice_index_or}
 use Rattle.block_device.specs.Device.{IsSector}
+use Rattle.hash_tree.specs.Laws.{AreBlocks}
+use Rattle.hash_tree.specs.Tree.{root}
+use Rattle.tree_shape.specs.Shape.{ancestor, levels}
 use Rattle.dm_table.specs.declared.parity.Parity.{Parity}
 use Rattle.dm_table.specs.declared.table.Line.{Line}
 use Rattle.dm_table.specs.declared.verity.Verity.{Verity}
 use Rattle.stack_rules.specs.Names.{mapped}
 use Rattle.stack_rules.specs.Records.{Configuration}
 use Rattle.stack_rules.specs.Rules.{IsLoaded}
-use Rattle.stack_rules.specs.Trees.{block_sectors, round_count}
+use Rattle.stack_rules.specs.Trees.{block_sectors, round_count, tree_of}
+use Rattle.stack_meaning.specs.Blocks.{covered_hash}
 use Rattle.stack_meaning.specs.Meaning.{sector}
 use Rattle.stack_meaning.specs.Outcomes.{AreWhole, Images}
 use Rattle.stack_meaning.specs.Spares.{BlockSources, IsFormerRound, IsWholeBeside, covered_block}
-use Rattle.stack_engine.specs.DamagedData.{BlockCollides, IsTreeOnHash, line_sources}
-use Rattle.stack_engine.specs.Laws.{LiesInVerity, formatted_sector}
+use Rattle.stack_engine.specs.DamagedData.{PathCollides, line_sources, tree_block}
+use Rattle.stack_engine.specs.Laws.{LiesInVerity, formatted_sector, verity_digests}
 use Rattle.verity_format.specs.Blocks.{block_at, blocks_at}
 use Rattle.fec_area.specs.declared.layout.Layout.{Layout}
 use Rattle.fec_area.specs.Layouts.{IsLayout, IsProtected, covered, covered_blocks, round_bytes}
@@ -56,22 +60,31 @@ ProtectedRoundsAreFormer =
     (v : Verity) (p : Parity) (l : Layout) (f : ProtectedImage) → IsLayoutOfLine v p l → IsProtectedImage l f
     → (n : ℕ) → n < round_count p → IsFormerRound v p (protected_block l f) n (protected_parity l f n)
 
--- the line has the parity of the image, whose tree is on the hash device
-pub record IsProtectedLine (c : Configuration) (images : Images) (v : Verity) (p : Parity) (l : Layout) (f : ProtectedImage) : Type 0 where
+-- the line has the parity of the image, and the root of the tree of its data blocks
+pub record IsProtectedLine (v : Verity) (p : Parity) (l : Layout) (f : ProtectedImage) : Type 0 where
   pub has : v.parity ≡ Some p
   pub laid : IsLayoutOfLine v p l
   pub protected : IsProtectedImage l f
-  pub tree : IsTreeOnHash c images v (protected_data v f)
+  pub sized : AreBlocks v.blocks v.data_block (protected_data v f)
+  pub root_is : v.root ≡ root v.hash_block v.salt (verity_digests v (protected_data v f))
 
--- covered block i is unchanged, or each other block of its round is, and so is the round's parity
-abbrev pub HasKeptRound : Verity → Parity → Layout → ProtectedImage → BlockSources → ℕ → Type 0
-HasKeptRound v p l f from i = (covered_block v from i ≡ Ok (protected_block l f i)) ⊎ IsWholeBeside v p from (protected_block l f) i (protected_parity l f (i % round_count p))
+-- covered block j is that one; or it was when the parity was written, and each other block of its round is unchanged, and so is the
+-- round's parity
+abbrev pub HasKeptRound : Verity → Parity → Layout → ProtectedImage → BlockSources → List ℕ → ℕ → Type 0
+HasKeptRound v p l f from block j =
+    (covered_block v from j ≡ Ok block)
+    ⊎ ((protected_block l f j ≡ block) × IsWholeBeside v p from (protected_block l f) j (protected_parity l f (j % round_count p)))
 
--- a sector of such a line, in data block i, is the image's, or block i is one of two different inputs of one digest
+-- data block i of the image is unchanged, or the rest of its round is; and so is each hash block of the tree on the path to it
+pub record HasKeptPath (v : Verity) (p : Parity) (l : Layout) (f : ProtectedImage) (from : BlockSources) (i : ℕ) : Type 0 where
+  pub block : (covered_block v from i ≡ Ok (protected_block l f i)) ⊎ IsWholeBeside v p from (protected_block l f) i (protected_parity l f (i % round_count p))
+  pub path : (k : ℕ) → k < levels (tree_of v) → HasKeptRound v p l f from (tree_block v (protected_data v f) k i) (covered_hash v k (ancestor (tree_of v) (k + 1) i))
+
+-- a sector of such a line, in data block i, is the image's, or a lost block on its path is one of two different inputs of one digest
 abbrev pub ProtectedDataIsRead : Type 0
 ProtectedDataIsRead = (c : Configuration) → IsLoaded c → (images : Images) → AreWhole images
     → (d s k : ℕ) (line : Line) (v : Verity) → LiesInVerity c d s k line v
-    → (p : Parity) (l : Layout) (f : ProtectedImage) → IsProtectedLine c images v p l f
-    → HasKeptRound v p l f (line_sources c images v) ((s - line.start) / block_sectors v)
+    → (p : Parity) (l : Layout) (f : ProtectedImage) → IsProtectedLine v p l f
+    → HasKeptPath v p l f (line_sources c images v) ((s - line.start) / block_sectors v)
     → (sector c images (mapped d) s ≡ Ok (formatted_sector v (protected_data v f) (s - line.start)))
-    ⊎ BlockCollides v (slice_index_or (protected_data v f) ((s - line.start) / block_sectors v) [])
+    ⊎ PathCollides c images v (protected_data v f) ((s - line.start) / block_sectors v)

@@ -13,9 +13,10 @@ pub fn protected_rounds_are_former()
     rounds_sum_to_zeros();
 }
 
-/// If a `verity` line has the parity that was written with an image, and its tree is whole, a sector of a data block is the image's, if
-/// the block is unchanged, or each other block of its round and the round's parity are; or another block has the digest of that one, and
-/// the two, each after the salt, are two different inputs of one SHA-256 digest.
+/// If a `verity` line has the parity that was written with an image, and the root of its data's tree, a sector of a data block is the
+/// image's, if the block and each hash block on its path are unchanged, or each other block of their rounds and the rounds' parity are;
+/// or another block has the digest of a lost one of these, and the two, each after the salt, are two different inputs of one SHA-256
+/// digest.
 pub fn protected_data_is_read()
     ensures { ProtectedDataIsRead }
 {

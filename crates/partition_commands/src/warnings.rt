@@ -145,7 +145,11 @@ fn say_sector<W: Write>(
 }
 
 #[tactic(auto, unfolding(crate::specs::Warnings::warning_if))]
-fn say_if<W: Write>(writer: &mut Counted<W>, is: bool, text: &[u8]) -> Result<(), WriteFault>
+pub(crate) fn say_if<W: Write>(
+    writer: &mut Counted<W>,
+    is: bool,
+    text: &[u8],
+) -> Result<(), WriteFault>
     ensures { Writes W.contents writer.old writer.new (warning_if is text.now) result }
 {
     if is {

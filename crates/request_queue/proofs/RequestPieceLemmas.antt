@@ -126,7 +126,7 @@ bytes-called v v' given fs d first size range (Err fault) found gives = record {
 
 -- ---- a sync
 
-pub is-synced : (w : World) (v : StackRecord) (result : Result Unit IoFault) → OnOk result (v.leaves ≡ map synced w.stack.leaves) → v.config ≡ w.stack.config → v.capacity ≡ w.stack.capacity → v.kept ≡ w.stack.kept → v.restored ≡ w.stack.restored → IfErr result (FailsToSync w.stack.leaves v.leaves)
+pub is-synced : (w : World) (v : StackRecord) (result : Result Unit IoFault) → OnOk result (v.leaves ≡ map synced w.stack.leaves) → v.config ≡ w.stack.config → v.capacity ≡ w.stack.capacity → (v.kept ≡ w.stack.kept) × (v.last ≡ w.stack.last) → v.restored ≡ w.stack.restored → IfErr result (FailsToSync w.stack.leaves v.leaves)
     → Syncs w result (world v w.given w.in_flight)
 is-synced w v (Ok done) same config capacity kept restored fails = ap (λ (x : StackRecord). world x w.given w.in_flight) (same-stack v (record w.stack { leaves = map synced w.stack.leaves }) config same capacity kept restored)
 is-synced w v (Err fault) same config capacity kept restored fails = record {

@@ -11,7 +11,7 @@ use Rattle.stack_engine.specs.Stacks.{StackRecord}
 use Rattle.request_queue.specs.declared.fault.PieceFault.{PieceFault}
 use Rattle.request_queue.specs.AtOnce.{EndsRead, IsNextPiece, PieceFails, PieceRead, ReadsInTurn, a_read, last_read}
 use Rattle.request_queue.specs.PieceCalls.{GivesInTurn, last_given, piece_given}
-use Rattle.request_queue.specs.Ranges.{range_at}
+use Rattle.request_queue.specs.Ranges.{most_read, range_at}
 
 -- so many bytes were read of a slice, the next piece has n, and all of it is to be read
 module _ (base v v' : StackRecord) (d first all : ℕ) (out : List ℕ) (done n : ℕ) (even : done % 512 ≡ 0) (whole : all % 512 ≡ 0) (fits : length out ≡ all) (inside : done + n ≤ length out) where
@@ -25,7 +25,7 @@ module _ (base v v' : StackRecord) (d first all : ℕ) (out : List ℕ) (done n 
   room-length : length room_of_piece ≡ n
   room-length = let same : done + n - done ≡ n = omega arith in length-take-le (done + n - done) (drop done out) (omega (arith, length-drop done out, inside)) ∙ same
 
-  module _ (next : IsNextPiece v.config d (first + done / 512) (length out - done) n) (p : ReadsInTurn (range_at d first (all / 512)) base (Ok (take done out)) v) where
+  module _ (next : IsNextPiece most_read v.config d (first + done / 512) (length out - done) n) (p : ReadsInTurn (range_at d first (all / 512)) base (Ok (take done out)) v) where
     a-piece : (answer : Result (List ℕ) IoFault) → EachBytes v d (first + done / 512) (length room_of_piece / 512) answer v' → ReadsAtMost (piece_budget v d (first + done / 512) (length room_of_piece / 512)) v.leaves v'.leaves
         → PieceRead v d (first + length (take done out) / 512) (512 * (all / 512) - length (take done out)) answer v'
     a-piece answer each spent =
@@ -57,7 +57,7 @@ module _ (base v v' : StackRecord) (d first all : ℕ) (out : List ℕ) (done n 
         let count : length room_of_piece / 512 ≡ (done + n - done) / 512 = omega (arith, room-length) in
         record {
           first = omega (arith, front-length);
-          next = subst (λ m. IsNextPiece v.config d (first + done / 512) (512 * (all / 512) - length (take done out)) m) size (subst (λ m. IsNextPiece v.config d (first + done / 512) m n) left next);
+          next = subst (λ m. IsNextPiece most_read v.config d (first + done / 512) (512 * (all / 512) - length (take done out)) m) size (subst (λ m. IsNextPiece most_read v.config d (first + done / 512) m n) left next);
           each = subst (λ k. EachBytes v d (first + done / 512) k (Err fault) v') count each;
           spent = subst (λ k. ReadsAtMost (piece_budget v d (first + done / 512) k) v.leaves v'.leaves) count spent;
         }
@@ -67,12 +67,12 @@ module _ (base v v' : StackRecord) (d first all : ℕ) (out : List ℕ) (done n 
     turn-ends fault each spent = (last_read (failed_piece fault) p (fails fault each spent), refl)
 
   -- the calls of the piece
-  module _ {D : Type 0} {state : D → Device} {does : D → Call → D → Type 0} (next : IsNextPiece v.config d (first + done / 512) (length out - done) n) (p : GivesInTurn state does (range_at d first (all / 512)) base (Ok (take done out)) v) where
-    here : IsNextPiece v.config d (first + length (take done out) / 512) (512 * (all / 512) - length (take done out)) n
+  module _ {D : Type 0} {state : D → Device} {does : D → Call → D → Type 0} (next : IsNextPiece most_read v.config d (first + done / 512) (length out - done) n) (p : GivesInTurn state does (range_at d first (all / 512)) base (Ok (take done out)) v) where
+    here : IsNextPiece most_read v.config d (first + length (take done out) / 512) (512 * (all / 512) - length (take done out)) n
     here =
         let at : first + done / 512 ≡ first + length (take done out) / 512 = omega (arith, front-length) in
         let left : length out - done ≡ 512 * (all / 512) - length (take done out) = omega (arith, front-length, fits, whole) in
-        subst (λ m. IsNextPiece v.config d (first + length (take done out) / 512) m n) left (subst (λ k. IsNextPiece v.config d k (length out - done) n) at next)
+        subst (λ m. IsNextPiece most_read v.config d (first + length (take done out) / 512) m n) left (subst (λ k. IsNextPiece most_read v.config d k (length out - done) n) at next)
 
     gives : (answer : Result (List ℕ) IoFault) → PieceGives state does v (d, first + done / 512) (length room_of_piece / 512) answer v' → PieceGives state does v (d, first + length (take done out) / 512) (n / 512) answer v'
     gives answer given =

@@ -20,7 +20,7 @@ use Rattle.request_queue.specs.declared.fault.PieceFault.{PieceFault}
 use Rattle.request_queue.specs.AtOnce.{BytesWritten, CanBeWritten, EndsWrite, IsNextPiece, IsNextWrite, WritesBeside, write_range}
 use Rattle.request_queue.specs.Flights.{FlightRecord}
 use Rattle.request_queue.specs.PieceCalls.{HandsInTurn, last_handed, piece_handed}
-use Rattle.request_queue.specs.Ranges.{bytes_range, range_at}
+use Rattle.request_queue.specs.Ranges.{bytes_range, most_piece, range_at}
 use Rattle.request_queue.specs.Replies.{piece_ending}
 use Rattle.request_queue.specs.declared.range.SectorRange.{SectorRange}
 use Rattle.request_queue.specs.WholeRuns.{WritesWhole}
@@ -73,7 +73,7 @@ module _ (base v v' : StackRecord) (d first : ℕ) (bytes : List ℕ) (done end 
     -- where memory ran out nothing more was written
     put-nothing : EachWrite v d (first + done / 512) (next_part bytes done end) (Err io.NoMemory) v' → WritesInPieces base d first (take (512 * (done / 512)) bytes) (Ok tt) v'
     put-nothing q =
-        let same : v ≡ v' = same-stack v v' (sym q.any.config) (sym q.any.ends.0) (sym q.any.capacity) (sym (q.any.short refl)) (sym q.any.restored) in
+        let same : v ≡ v' = same-stack v v' (sym q.any.config) (sym q.any.ends.0) (sym q.any.capacity) (sym (q.any.short refl).0, sym (q.any.short refl).1) (sym q.any.restored) in
         let sectors : done ≡ 512 * (done / 512) = omega (arith, even) in
         subst (λ x. WritesInPieces base d first (take (512 * (done / 512)) bytes) (Ok tt) x) same (subst (λ k. WritesInPieces base d first (take k bytes) (Ok tt) v) sectors p)
 
@@ -89,7 +89,7 @@ module _ (base v v' : StackRecord) (d first : ℕ) (bytes : List ℕ) (done end 
         SomeOf-more (λ s. (said_at base.config (mapped d) s).encrypts) first (done / 512) (length (next_part bytes done end) / 512) (length bytes / 512) inside
         (subst (λ (c : Configuration). SomeEncrypt (said_at c (mapped d)) (first + done / 512) (length (next_part bytes done end) / 512)) p.any.config some)
 
-  module _ (can : CanBeWritten v.config d first bytes) (next : IsNextPiece v.config d (first + done / 512) (length bytes - done) (end - done)) where
+  module _ (can : CanBeWritten v.config d first bytes) (next : IsNextPiece most_piece v.config d (first + done / 512) (length bytes - done) (end - done)) where
     part-inside : first + length (take done bytes) / 512 + length (next_part bytes done end) / 512 ≤ size v.config (mapped d)
     part-inside = omega (arith, part-length, front-length, even, more, within, can.sectors.inside)
 
@@ -99,7 +99,7 @@ module _ (base v v' : StackRecord) (d first : ℕ) (bytes : List ℕ) (done end 
         let left : length bytes - done ≡ 512 * (length bytes / 512) - length (take done bytes) = omega (arith, front-length, can.sectors.whole) in
         subst (λ k. IsNextWrite v d k (512 * (length bytes / 512) - length (take done bytes)) (length (next_part bytes done end)) v') start
         (subst (λ m. IsNextWrite v d (first + done / 512) m (length (next_part bytes done end)) v') left
-        (record { next = subst (λ n. IsNextPiece v.config d (first + done / 512) (length bytes - done) n) (sym part-length) next; wrote = q.wrote; needed = q.needed }))
+        (record { next = subst (λ n. IsNextPiece most_piece v.config d (first + done / 512) (length bytes - done) n) (sym part-length) next; wrote = q.wrote; needed = q.needed }))
 
     module _ (p : WritesBeside (range_at d first (length bytes / 512)) base (take done bytes) (Ok tt) v) where
       pub steps-more : IsWritten v d (first + done / 512) (next_part bytes done end) (Ok tt) v' → WritesBeside (range_at d first (length bytes / 512)) base (take end bytes) (Ok tt) v'
@@ -119,12 +119,12 @@ module _ (base v v' : StackRecord) (d first : ℕ) (bytes : List ℕ) (done end 
           (beside-fails range base v v' (take done bytes) (next_part bytes done end) can.allowed part-inside q.checked (next-write (Err fault) q) p (drop (end - done) (drop done bytes)) fault (from-start (Err fault) q.each))))
 
   -- the calls of the piece
-  module _ {D : Type 0} {state : D → Device} {does : D → Call → D → Type 0} (whole : length bytes % 512 ≡ 0) (next : IsNextPiece v.config d (first + done / 512) (length bytes - done) (end - done)) (p : HandsInTurn state does (range_at d first (length bytes / 512)) base (take done bytes) (Ok tt) v) where
-    here : IsNextPiece v.config d (first + length (take done bytes) / 512) (512 * (length bytes / 512) - length (take done bytes)) (length (next_part bytes done end))
+  module _ {D : Type 0} {state : D → Device} {does : D → Call → D → Type 0} (whole : length bytes % 512 ≡ 0) (next : IsNextPiece most_piece v.config d (first + done / 512) (length bytes - done) (end - done)) (p : HandsInTurn state does (range_at d first (length bytes / 512)) base (take done bytes) (Ok tt) v) where
+    here : IsNextPiece most_piece v.config d (first + length (take done bytes) / 512) (512 * (length bytes / 512) - length (take done bytes)) (length (next_part bytes done end))
     here =
         let left : length bytes - done ≡ 512 * (length bytes / 512) - length (take done bytes) = omega (arith, front-length, whole) in
-        subst (λ n. IsNextPiece v.config d (first + length (take done bytes) / 512) (512 * (length bytes / 512) - length (take done bytes)) n) (sym part-length)
-        (subst (λ m. IsNextPiece v.config d (first + length (take done bytes) / 512) m (end - done)) left (subst (λ k. IsNextPiece v.config d k (length bytes - done) (end - done)) start next))
+        subst (λ n. IsNextPiece most_piece v.config d (first + length (take done bytes) / 512) (512 * (length bytes / 512) - length (take done bytes)) n) (sym part-length)
+        (subst (λ m. IsNextPiece most_piece v.config d (first + length (take done bytes) / 512) m (end - done)) left (subst (λ k. IsNextPiece most_piece v.config d k (length bytes - done) (end - done)) start next))
 
     hands : (result : Result Unit IoFault) → PieceHands state does v (d, first + done / 512) (next_part bytes done end) result v' → PieceHands state does v (d, first + length (take done bytes) / 512) (next_part bytes done end) result v'
     hands result handed = subst (λ k. PieceHands state does v (d, k) (next_part bytes done end) result v') start handed

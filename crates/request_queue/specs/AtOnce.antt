@@ -17,7 +17,7 @@ use Rattle.request_queue.specs.declared.fault.SubmitFault.{SubmitFault}
 use Rattle.request_queue.specs.declared.range.SectorRange.{SectorRange}
 use Rattle.request_queue.specs.Flights.{FlightRecord}
 use Rattle.request_queue.specs.Parts.{EachPart}
-use Rattle.request_queue.specs.Ranges.{HaveSectors, bytes_range, most_piece, range_at}
+use Rattle.request_queue.specs.Ranges.{HaveSectors, bytes_range, most_piece, most_read, range_at}
 use Rattle.request_queue.specs.Replies.{bytes_given, piece_ending}
 use Rattle.request_queue.specs.Requests.{writable_sectors}
 use Rattle.request_queue.specs.WholeRuns.{WritesWhole}
@@ -27,13 +27,13 @@ use Rattle.request_queue.specs.World.{World, world, Step, write_piece}
 abbrev pub write_range : Configuration → ℕ → ℕ → List ℕ → Result SectorRange SubmitFault
 write_range c d first bytes = writable_sectors c bytes (bytes_range c d first (length bytes))
 
--- How many bytes the next piece has, of so many that are left of sectors of mapped device d, from the first on: it splits no
--- unit and no data block that can be read or written in one piece.
-pub record IsNextPiece (c : Configuration) (d first left n : ℕ) : Type 0 where
-  pub value : n ≡ 512 * aligned_len c d first (left / 512) most_piece
+-- How many bytes the next piece of at most so many sectors has, of those that are left of sectors of mapped device d, from the
+-- first on: it splits no unit and no data block that can be read or written in one piece.
+pub record IsNextPiece (most : ℕ) (c : Configuration) (d first left n : ℕ) : Type 0 where
+  pub value : n ≡ 512 * aligned_len c d first (left / 512) most
   pub whole : n % 512 ≡ 0
   pub some : 512 ≤ n
-  pub most : n ≤ 65536
+  pub few : n ≤ 512 * most
   pub inside : n ≤ left
 
 -- bytes of whole sectors inside mapped device d, which may be written
@@ -54,14 +54,14 @@ bytes_after range bytes = 512 * range.count - length bytes
 -- more than its units and data blocks cost, each of them once.
 pub record PieceRead (v : StackRecord) (d first left : ℕ) (answer : Result (List ℕ) IoFault) (v' : StackRecord) : Type 0 where
   pub size : ℕ
-  pub next : IsNextPiece v.config d first left size
+  pub next : IsNextPiece most_read v.config d first left size
   pub each : EachBytes v d first (size / 512) answer v'
   pub spent : ReadsAtMost (piece_budget v d first (size / 512)) v.leaves v'.leaves
 
 -- The next piece of the read of a range, after these bytes, ended by its fault.
 pub record PieceFails (v : StackRecord) (range : SectorRange) (before : List ℕ) (piece : PieceFault) (v' : StackRecord) : Type 0 where
   pub first : piece.first ≡ sector_after range before
-  pub next : IsNextPiece v.config range.device.0 piece.first (bytes_after range before) (512 * piece.count)
+  pub next : IsNextPiece most_read v.config range.device.0 piece.first (bytes_after range before) (512 * piece.count)
   pub each : EachBytes v range.device.0 piece.first piece.count (Err piece.fault) v'
   pub spent : ReadsAtMost (piece_budget v range.device.0 piece.first piece.count) v.leaves v'.leaves
 
@@ -105,7 +105,7 @@ ReadsInPieces w d first bytes (Err (Refused fault)) w' = w'.stack ≡ w.stack
 -- A piece of n bytes is the next one of a write, of so many bytes that are left from the first sector of mapped device d on. It
 -- writes no more than its units cost, each of them once, and reads no more than those that it splits.
 pub record IsNextWrite (v : StackRecord) (d first left n : ℕ) (v' : StackRecord) : Type 0 where
-  pub next : IsNextPiece v.config d first left n
+  pub next : IsNextPiece most_piece v.config d first left n
   pub wrote : PieceWrote v d first (n / 512) v'
   pub needed : PieceNeeded v d first (n / 512) v'
 

@@ -13,7 +13,7 @@ use Rattle.request_queue.specs.declared.fault.BytesFault.TheVariants.{Refused, F
 use Rattle.request_queue.specs.declared.range.SectorRange.{SectorRange}
 use Rattle.request_queue.specs.AtOnce.{IsNextPiece, bytes_after, sector_after}
 use Rattle.request_queue.specs.Parts.{PartRelation, bytes_part, bytes_read, ending, read_part, write_part}
-use Rattle.request_queue.specs.Ranges.{range_at}
+use Rattle.request_queue.specs.Ranges.{most_piece, most_read, range_at}
 use Rattle.request_queue.specs.World.{World}
 
 -- ---- of a range that is read or written at once
@@ -22,18 +22,18 @@ use Rattle.request_queue.specs.World.{World}
 -- that ends by a fault. The answer is what the calls gave.
 pub data GivesInTurn {D : Type 0} (state : D → Device) (does : D → Call → D → Type 0) (range : SectorRange) (w : StackRecord) : Result (List ℕ) IoFault → StackRecord → Type 0 where
   none_given : GivesInTurn state does range w (Ok []) w
-  piece_given : {x y : List ℕ} {v w' : StackRecord} (size : ℕ) → GivesInTurn state does range w (Ok x) v → IsNextPiece v.config range.device.0 (sector_after range x) (bytes_after range x) size
+  piece_given : {x y : List ℕ} {v w' : StackRecord} (size : ℕ) → GivesInTurn state does range w (Ok x) v → IsNextPiece most_read v.config range.device.0 (sector_after range x) (bytes_after range x) size
       → PieceGives state does v (range.device.0, sector_after range x) (size / 512) (Ok y) w' → GivesInTurn state does range w (Ok (x ++ y)) w'
-  last_given : {x : List ℕ} {v w' : StackRecord} {fault : IoFault} (size : ℕ) → GivesInTurn state does range w (Ok x) v → IsNextPiece v.config range.device.0 (sector_after range x) (bytes_after range x) size
+  last_given : {x : List ℕ} {v w' : StackRecord} {fault : IoFault} (size : ℕ) → GivesInTurn state does range w (Ok x) v → IsNextPiece most_read v.config range.device.0 (sector_after range x) (bytes_after range x) size
       → PieceGives state does v (range.device.0, sector_after range x) (size / 512) (Err fault) w' → GivesInTurn state does range w (Err fault) w'
 
 -- These bytes are handed over to a range piece by piece, in the same way. The bytes after a piece that ends by a fault aren't
 -- handed over.
 pub data HandsInTurn {D : Type 0} (state : D → Device) (does : D → Call → D → Type 0) (range : SectorRange) (w : StackRecord) : List ℕ → Result Unit IoFault → StackRecord → Type 0 where
   none_handed : HandsInTurn state does range w [] (Ok tt) w
-  piece_handed : {x y : List ℕ} {v w' : StackRecord} → HandsInTurn state does range w x (Ok tt) v → IsNextPiece v.config range.device.0 (sector_after range x) (bytes_after range x) (length y)
+  piece_handed : {x y : List ℕ} {v w' : StackRecord} → HandsInTurn state does range w x (Ok tt) v → IsNextPiece most_piece v.config range.device.0 (sector_after range x) (bytes_after range x) (length y)
       → PieceHands state does v (range.device.0, sector_after range x) y (Ok tt) w' → HandsInTurn state does range w (x ++ y) (Ok tt) w'
-  last_handed : {x y : List ℕ} {v w' : StackRecord} {fault : IoFault} (z : List ℕ) → HandsInTurn state does range w x (Ok tt) v → IsNextPiece v.config range.device.0 (sector_after range x) (bytes_after range x) (length y)
+  last_handed : {x y : List ℕ} {v w' : StackRecord} {fault : IoFault} (z : List ℕ) → HandsInTurn state does range w x (Ok tt) v → IsNextPiece most_piece v.config range.device.0 (sector_after range x) (bytes_after range x) (length y)
       → PieceHands state does v (range.device.0, sector_after range x) y (Err fault) w' → HandsInTurn state does range w (x ++ (y ++ z)) (Err fault) w'
 
 -- these bytes are handed over to mapped device at.0, from its sector at.1 on; a write that is refused makes no call

@@ -12,6 +12,10 @@ use Rattle.request_queue.specs.declared.range.SectorRange.{SectorRange}
 abbrev pub most_piece : ℕ
 most_piece = 128
 
+-- of a read into a slice
+abbrev pub most_read : ℕ
+most_read = 2048
+
 abbrev pub most_count : ℕ
 most_count = 2048
 

@@ -156,7 +156,7 @@ pub record PieceWritten (part : PartRelation) (w : World) (d first : ℕ) (bytes
 pub record LoadDone (w : World) (text : List Entry) (w' : World) : Type 0 where
   pub idle : w.in_flight ≡ []
   pub passes : first_refusal w.stack.config text ≡ None
-  pub leaves : w' ≡ world (record w.stack { config = after_load w.stack.config text; kept = [] }) w.given w.in_flight
+  pub leaves : w' ≡ world (record w.stack { config = after_load w.stack.config text; kept = []; last = None }) w.given w.in_flight
   pub loaded : IsLoaded w'.stack.config
 
 abbrev pub LoadFails : World → List Entry → LoadFault → Type 0
@@ -172,7 +172,7 @@ LoadsText w text (Err (Fault fault)) w' = (w.in_flight ≡ []) × LoadFails w te
 pub record RemovalDone (w : World) (name : List ℕ) (w' : World) : Type 0 where
   pub idle : w.in_flight ≡ []
   pub passes : removal_fault w.stack.config name ≡ None
-  pub leaves : w' ≡ world (record w.stack { config = after_removal w.stack.config name; kept = [] }) w.given w.in_flight
+  pub leaves : w' ≡ world (record w.stack { config = after_removal w.stack.config name; kept = []; last = None }) w.given w.in_flight
   pub loaded : IsLoaded w'.stack.config
 
 abbrev pub Removes : World → List ℕ → Result Unit (BusyOr RemoveFault) → World → Type 0

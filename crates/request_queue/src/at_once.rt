@@ -11,21 +11,28 @@ ghost use Rattle.request_queue.specs.Replies.{LacksMemory, bytes_given, piece_an
 ghost use Rattle.request_queue.specs.WholeRuns.{WritesWhole};
 
 use crate::fault::PieceFault;
-use crate::range::MOST_PIECE;
+use crate::range::{MOST_PIECE, MOST_READ};
 use alignment::aligned_len;
 use block_device::BlockDev;
 use stack_config::DevId;
 use stack_engine::{IoFault, Stack};
 
-// How many of the bytes that are left the next piece has: it splits no unit and no data block that can be read or written
-// in one piece.
-fn piece_bytes<D: BlockDev>(stack: &Stack<D>, device: DevId, first: u64, left: usize) -> usize
+// How many of the bytes that are left the next piece of at most so many sectors has: it splits no unit and no data block that
+// can be read or written in one piece.
+fn piece_bytes<D: BlockDev>(
+    stack: &Stack<D>,
+    device: DevId,
+    first: u64,
+    left: usize,
+    most: u64,
+) -> usize
     requires sectors { HaveSectors stack.now.config device.0 first left }
     requires some { 0 < left }
-    ensures { IsNextPiece stack.now.config device.0 first left result }
+    requires limit { 0 < most }
+    ensures { IsNextPiece most stack.now.config device.0 first left result }
 {
     let sectors = (left / 512) as u64;
-    aligned_len(stack.config(), device, first, sectors, MOST_PIECE) as usize * 512
+    aligned_len(stack.config(), device, first, sectors, most) as usize * 512
 }
 
 // The fault of a piece of so many bytes.
@@ -56,7 +63,7 @@ pub(crate) fn read_pieces<D: BlockDev>(
     let mut done = 0;
     'pieces: while done < out.len() {
         let at = first + (done / 512) as u64;
-        let end = done + piece_bytes(stack, device, at, out.len() - done);
+        let end = done + piece_bytes(stack, device, at, out.len() - done, MOST_READ);
         match stack.read_bytes(device, at, &mut out[done..end]) {
             Ok(()) => done = end,
             Err(fault) => return Err(piece_fault(at, end - done, fault)),
@@ -81,7 +88,7 @@ pub(crate) fn write_pieces<D: BlockDev>(
     let mut done = 0;
     'pieces: while done < bytes.len() {
         let at = first + (done / 512) as u64;
-        let end = done + piece_bytes(stack, device, at, bytes.len() - done);
+        let end = done + piece_bytes(stack, device, at, bytes.len() - done, MOST_PIECE);
         match stack.write_piece(device, at, &bytes[done..end]) {
             Ok(()) => done = end,
             Err(fault) => return Err(piece_fault(at, end - done, fault)),

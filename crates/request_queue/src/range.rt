@@ -8,6 +8,8 @@ use stack_config::{Config, DevId};
 
 pub(crate) const MOST_PIECE: u64 = 128;
 
+pub(crate) const MOST_READ: u64 = 2048;
+
 const MOST_COUNT: u64 = 2048;
 
 /// Sectors of a mapped device: the first one, from 0 on, and how many.

@@ -6,4 +6,5 @@ mod PrintedLemmas
 mod PrintedLineLemmas
 mod ReadLemmas
 mod SpliceLemmas
+mod StepLemmas
 mod TailLemmas

@@ -20,10 +20,11 @@ use Rattle.rescue_map.specs.declared.status.Status.TheVariants.{Bad, Recovered, 
 use Rattle.rescue_map.specs.declared.tail.Tail.{Tail}
 use Rattle.rescue_map.specs.declared.map.Run.{Run}
 use Rattle.rescue_map.specs.Blocks.{block_at, block_from, map_block, most_bytes, status_of}
-use Rattle.rescue_map.specs.MapText.{is_told_lost, is_tried, run_words, status_word, tail_text, tail_words, told_run}
+use Rattle.rescue_map.specs.MapText.{run_words, tail_text, tail_words}
 use Rattle.rescue_map.specs.Numbers.{has_base, map_number}
 use Rattle.rescue_map.specs.Statuses.{letter}
-use Rattle.rescue_map.specs.Tails.{block_runs, block_tail, no_tail, run_of}
+use Rattle.rescue_map.specs.Stages.{run_of, run_status}
+use Rattle.rescue_map.specs.Tails.{block_runs, block_tail, no_tail}
 use Rattle.rescue_map.proofs.TailLemmas.{runs-whole, tail-whole}
 
 -- ---- words
@@ -123,35 +124,6 @@ map_number-decimal n fits = cond-false (has_base (decimal n)) _ _ (no_base-decim
 plain-letter : (b : ℕ) → is_white b ≡ false → IsPlain (b ∷ [])
 plain-letter b other = (omega arith, All-cons (λ b. is_white b ≡ false) b [] other (All-nil (λ b. is_white b ≡ false)))
 
-plain-status : (no_scrape had lost tried : Bool) → IsPlain (status_word no_scrape had lost tried)
-plain-status no_scrape true lost tried = plain-letter 43 refl
-plain-status no_scrape false true tried = plain-letter 45 refl
-plain-status true false false true = plain-letter 47 refl
-plain-status false false false true = plain-letter 45 refl
-plain-status no_scrape false false false = plain-letter 63 refl
-
--- the status that it is read as
-abbrev pub told_status : Bool → Bool → Bool → Bool → Status
-told_status no_scrape true lost tried = Recovered
-told_status no_scrape false true tried = Bad
-told_status true false false true = Unscraped
-told_status false false false true = Bad
-told_status no_scrape false false false = Untried
-
-status-read : (no_scrape had lost tried : Bool) → status_of (status_word no_scrape had lost tried) ≡ Some (told_status no_scrape had lost tried)
-status-read no_scrape true lost tried = refl
-status-read no_scrape false true tried = refl
-status-read true false false true = refl
-status-read false false false true = refl
-status-read no_scrape false false false = refl
-
-run-read : (count : ℕ) (no_scrape had lost tried : Bool) → run_of count (told_status no_scrape had lost tried) ≡ record { count = count; had = had; lost = is_told_lost no_scrape had lost tried }
-run-read count no_scrape true lost tried = refl
-run-read count no_scrape false true tried = refl
-run-read count true false false true = refl
-run-read count false false false true = refl
-run-read count no_scrape false false false = refl
-
 letter-read : (status : Status) → status_of (letter status) ≡ Some status
 letter-read Untried = refl
 letter-read Untrimmed = refl
@@ -199,12 +171,9 @@ block-next at sectors block here some inside =
     ∙ cond-false (ltb block.first at) _ _ (le-ltb block.first at (omega (arith, here)))
     ∙ cond-false (ltb (most_bytes sectors - at) block.count) _ _ (le-ltb (most_bytes sectors - at) block.count (omega (arith, inside)))
 
-module _ (no_scrape : Bool) (tried : Option ℕ) (at : ℕ) (run : Run) (few : at + run.count ≤ 2 ^ 54) where
-  abbrev run_status : Status
-  run_status = told_status no_scrape run.had run.lost (is_tried tried (at + run.count))
-
+module _ (at : ℕ) (run : Run) (few : at + run.count ≤ 2 ^ 54) where
   abbrev pub told_block : Block
-  told_block = record { first = at * 512; count = run.count * 512; status = run_status }
+  told_block = record { first = at * 512; count = run.count * 512; status = run_status run }
 
   low : at * 512 < 2 ^ 64
   low = omega (arith, few)
@@ -212,32 +181,30 @@ module _ (no_scrape : Bool) (tried : Option ℕ) (at : ℕ) (run : Run) (few : a
   high : run.count * 512 < 2 ^ 64
   high = omega (arith, few)
 
-  plain-run : IsPlain (status_word no_scrape run.had run.lost (is_tried tried (at + run.count)))
-  plain-run = plain-status no_scrape run.had run.lost (is_tried tried (at + run.count))
+  plain-run : IsPlain (letter (run_status run))
+  plain-run = plain-letter_of (run_status run)
 
-  pub line-words : words (join_with_byte 32 (run_words no_scrape tried at run)) ≡ run_words no_scrape tried at run
+  pub line-words : words (join_with_byte 32 (run_words at run)) ≡ run_words at run
   unfolding run_words
-  line-words = three-words (at * 512) (run.count * 512) (status_word no_scrape run.had run.lost (is_tried tried (at + run.count))) low high plain-run
+  line-words = three-words (at * 512) (run.count * 512) (letter (run_status run)) low high plain-run
 
-  pub line-one : All (λ b. eqb b 10 ≡ false) (join_with_byte 32 (run_words no_scrape tried at run))
+  pub line-one : All (λ b. eqb b 10 ≡ false) (join_with_byte 32 (run_words at run))
   unfolding run_words
-  line-one = three-one (at * 512) (run.count * 512) (status_word no_scrape run.had run.lost (is_tried tried (at + run.count))) low high plain-run
+  line-one = three-one (at * 512) (run.count * 512) (letter (run_status run)) low high plain-run
 
-  pub line-said : is_skipped (run_words no_scrape tried at run) ≡ false
+  pub line-said : is_skipped (run_words at run) ≡ false
   unfolding run_words
-  line-said = three-said (at * 512) (run.count * 512) (status_word no_scrape run.had run.lost (is_tried tried (at + run.count))) low high plain-run
+  line-said = three-said (at * 512) (run.count * 512) (letter (run_status run)) low high plain-run
 
-  pub line-block : map_block (run_words no_scrape tried at run) ≡ Ok told_block
+  pub line-block : map_block (run_words at run) ≡ Ok told_block
   unfolding run_words
-  line-block = three-block (at * 512) (run.count * 512) (status_word no_scrape run.had run.lost (is_tried tried (at + run.count))) low high plain-run run_status (status-read no_scrape run.had run.lost (is_tried tried (at + run.count)))
+  line-block = three-block (at * 512) (run.count * 512) (letter (run_status run)) low high plain-run (run_status run) (letter-read (run_status run))
 
-  pub line-runs : 1 ≤ run.count → block_runs no_tail told_block ≡ told_run no_scrape tried at run ∷ []
-  line-runs some =
-      runs-whole (at * 512) (run.count * 512) run_status run.count refl some
-      ∙ ap (λ (r : Run). r ∷ []) (run-read run.count no_scrape run.had run.lost (is_tried tried (at + run.count)))
+  pub line-runs : 1 ≤ run.count → block_runs no_tail told_block ≡ run_of run.count (run_status run) ∷ []
+  line-runs some = runs-whole (at * 512) (run.count * 512) (run_status run) run.count refl some
 
   pub line-tail : 1 ≤ run.count → block_tail no_tail told_block ≡ no_tail
-  line-tail some = tail-whole (at * 512) (run.count * 512) run_status run.count refl some
+  line-tail some = tail-whole (at * 512) (run.count * 512) (run_status run) run.count refl some
 
 module _ (at : ℕ) (tail : Tail) (few : at ≤ 2 ^ 54) (some : 1 ≤ tail.count) (part : tail.count < 2 ^ 64) where
   abbrev tail_block : Block

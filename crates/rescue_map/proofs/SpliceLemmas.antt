@@ -2,16 +2,17 @@
 use Rattle.std.proofs.Common.{◌≡◌, ℕ, zero, suc, ◌+◌, ◌-◌, ◌≤◌, Bool, true, false, List, ◌∷◌, ◌++◌, length, take, drop, replicate, sym, ap, ◌∙◌, append_assoc, arith}
 use Rattle.std.proofs.lemmas.List.{drop-drop, length-append, length-drop, length-replicate, replicate-append-replicate, take_all}
 use Rattle.rescue_map.specs.declared.map.Run.{Run}
+use Rattle.rescue_map.specs.declared.stage.Stage.{Stage}
 use Rattle.rescue_map.specs.declared.totals.Totals.{Totals}
 use Rattle.rescue_map.specs.declared.splicing.Span.{Span}
 use Rattle.rescue_map.specs.Maps.{spliced_marks, with_run}
 
 -- the first of some alike sectors
-pub replicate-parts : (n m : ℕ) (h : Bool) (rest : List Bool) → n ≤ m → replicate m h ++ rest ≡ replicate n h ++ (replicate (m - n) h ++ rest)
-replicate-parts n m h rest le =
+pub replicate-parts : {A : Type 0} (n m : ℕ) (h : A) (rest : List A) → n ≤ m → replicate m h ++ rest ≡ replicate n h ++ (replicate (m - n) h ++ rest)
+replicate-parts {A} n m h rest le =
     let whole : n + (m - n) ≡ m = omega (arith, le) in
     ap (λ (k : ℕ). replicate k h ++ rest) (sym whole)
-    ∙ ap (λ (l : List Bool). l ++ rest) (sym (replicate-append-replicate n (m - n) h))
+    ∙ ap (λ (l : List A). l ++ rest) (sym (replicate-append-replicate n (m - n) h))
     ∙ append_assoc (replicate n h) (replicate (m - n) h) rest
 
 take-front : (n m : ℕ) (h : Bool) (rest : List Bool) → n ≤ m → take m (replicate n h ++ rest) ≡ replicate n h ++ take (m - n) rest
@@ -42,13 +43,18 @@ module _ (now next : List Bool) (n m : ℕ) (h : Bool) (le : n ≤ m) (is : now 
 pub length-more : (old new : List Bool) (n : ℕ) (h : Bool) → new ≡ old ++ replicate n h → length new ≡ length old + n
 length-more old new n h e = ap length e ∙ length-append old (replicate n h) ∙ ap (λ (k : ℕ). length old + k) (length-replicate {A = Bool} n h)
 
--- a run more
-sum-either : (t : Totals) (count : ℕ) (had lost : Bool) → (with_run t (record { count = count; had = had; lost = lost })).had + (with_run t (record { count = count; had = had; lost = lost })).lost ≡ t.had + t.lost + count
-sum-either t count true lost = omega arith
-sum-either t count false lost = omega arith
+-- the sectors of all kinds
+abbrev pub total : Totals → ℕ
+total t = t.had + t.bad + t.left
 
-pub sum-more : (t : Totals) (r : Run) → (with_run t r).had + (with_run t r).lost ≡ t.had + t.lost + r.count
-sum-more t r = sum-either t r.count r.had r.lost
+-- a run more
+sum-either : (t : Totals) (count : ℕ) (had lost : Bool) (stage : Stage) → total (with_run t (record { count = count; had = had; lost = lost; stage = stage })) ≡ total t + count
+sum-either t count true lost stage = omega arith
+sum-either t count false true stage = omega arith
+sum-either t count false false stage = omega arith
+
+pub sum-more : (t : Totals) (r : Run) → total (with_run t r) ≡ total t + r.count
+sum-more t r = sum-either t r.count r.had r.lost r.stage
 
 -- ---- a span of one map in another one
 

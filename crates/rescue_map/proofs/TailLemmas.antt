@@ -10,7 +10,8 @@ use Rattle.rescue_map.specs.declared.status.Status.TheVariants.{Bad, Recovered, 
 use Rattle.rescue_map.specs.declared.tail.Tail.{Tail}
 use Rattle.rescue_map.specs.Maps.{marks}
 use Rattle.rescue_map.specs.Statuses.{is_recovered, least}
-use Rattle.rescue_map.specs.Tails.{IsTail, block_runs, block_tail, completed, lacking, no_tail, run_of, tail_of, whole_run}
+use Rattle.rescue_map.specs.Stages.{run_of}
+use Rattle.rescue_map.specs.Tails.{IsTail, block_runs, block_tail, completed, lacking, no_tail, tail_of, whole_run}
 
 -- the sectors of two lists of runs
 pub length-both : (before after : List Run) → length (marks (before ++ after)) ≡ length (marks before) + length (marks after)

@@ -2,3 +2,4 @@
 pub mod ParsedLemmas
 pub mod RunLemmas
 pub mod SpanLemmas
+pub mod StatusLemmas

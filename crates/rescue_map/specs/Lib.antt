@@ -5,6 +5,8 @@ pub mod Lost
 pub mod MapText
 pub mod Maps
 pub mod Numbers
+pub mod Stages
 pub mod Statuses
+pub mod Steps
 pub mod Tails
 pub mod Finished

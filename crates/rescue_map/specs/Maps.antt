@@ -1,5 +1,5 @@
 -- Which sectors of a device were recovered, and which were found bad.
-use Rattle.std.specs.Prelude.{ℕ, ◌+◌, ◌^◌, ◌≤◌, ◌&&◌, ◌||◌, not, nat_le, Bool, true, List, [], ◌∷◌, ◌++◌, length, replicate, take, drop, All, if◌then◌else◌}
+use Rattle.std.specs.Prelude.{ℕ, ◌+◌, ◌^◌, ◌≤◌, ◌&&◌, ◌||◌, not, Bool, false, List, [], ◌∷◌, ◌++◌, length, replicate, take, drop, All, if◌then◌else◌}
 use Rattle.std.specs.List.{flat_map}
 use Rattle.rescue_map.specs.declared.map.Run.{Run}
 use Rattle.rescue_map.specs.declared.splicing.Span.{Span}
@@ -20,6 +20,10 @@ is_settled again r = r.had || (r.lost && not again)
 -- for each sector, whether it is so
 abbrev pub settled_marks : Bool → List Run → List Bool
 settled_marks again runs = flat_map (λ r. replicate r.count (is_settled again r)) runs
+
+-- none of the sectors is bad
+abbrev pub no_losts : List Run → List Bool
+no_losts runs = flat_map (λ r. replicate r.count false) runs
 
 -- two lists, element by element
 abbrev pub joined : (Bool → Bool → Bool) → List Bool → List Bool → List Bool
@@ -52,18 +56,13 @@ abbrev pub spliced_marks : Span → List Bool → List Bool → List Bool
 spliced_marks span around within =
     take span.first around ++ (take span.count (drop span.first within) ++ drop (span.first + span.count) around)
 
--- the number of sectors that were recovered, and of those that weren't
+-- the numbers of sectors that were recovered, of bad ones, and of those that remain to be read
 abbrev pub with_run : Totals → Run → Totals
-with_run t r = if r.had then record { had = t.had + r.count; lost = t.lost } else record { had = t.had; lost = t.lost + r.count }
+with_run t r = if r.had then record t { had = t.had + r.count } else if r.lost then record t { bad = t.bad + r.count } else record t { left = t.left + r.count }
 
 abbrev pub totals_from : Totals → List Run → Totals
 totals_from t [] = t
 totals_from t (r ∷ more) = totals_from (with_run t r) more
 
 abbrev pub map_totals : List Run → Totals
-map_totals runs = totals_from (record { had = 0; lost = 0 }) runs
-
--- each run that ends after sector `from` was recovered or is bad; the first run begins at sector `at`
-abbrev pub is_settled_from : ℕ → ℕ → List Run → Bool
-is_settled_from from at [] = true
-is_settled_from from at (r ∷ more) = (r.had || (r.lost || nat_le (at + r.count) from)) && is_settled_from from (at + r.count) more
+map_totals runs = totals_from (record { had = 0; bad = 0; left = 0 }) runs

@@ -20,6 +20,10 @@ rank Unscraped = 2
 rank Bad = 3
 rank Recovered = 4
 
+-- whether two are the same
+abbrev pub is_same : Status → Status → Bool
+is_same a b = rank a == rank b
+
 -- the less advanced of two
 abbrev pub least : Status → Status → Status
 least a b = if nat_le (rank a) (rank b) then a else b

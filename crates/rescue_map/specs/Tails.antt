@@ -5,7 +5,8 @@ use Rattle.rescue_map.specs.declared.map.Run.{Run}
 use Rattle.rescue_map.specs.declared.status.Status.{Status}
 use Rattle.rescue_map.specs.declared.status.Status.TheVariants.{Recovered}
 use Rattle.rescue_map.specs.declared.tail.Tail.{Tail}
-use Rattle.rescue_map.specs.Statuses.{is_bad, is_recovered, least}
+use Rattle.rescue_map.specs.Stages.{run_of}
+use Rattle.rescue_map.specs.Statuses.{least}
 
 -- no byte follows the last whole sector
 abbrev pub no_tail : Tail
@@ -15,9 +16,6 @@ no_tail = record { count = 0; status = Recovered }
 pub record IsTail (tail : Tail) : Type 0 where
   pub part : tail.count < 512
   pub none : tail.count ≡ 0 → tail.status ≡ Recovered
-
-abbrev pub run_of : ℕ → Status → Run
-run_of count status = record { count = count; had = is_recovered status; lost = is_bad status }
 
 -- the sector that the bytes of a tail and the next ones, of that status, make
 abbrev pub completed : Tail → Status → List Run

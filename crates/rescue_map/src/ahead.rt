@@ -1,9 +1,11 @@
 //! The sectors of a map that remain to be processed.
 ghost use Rattle.std.specs.Prelude.{◌≡◌, ◌≤◌, ◌++◌, [], replicate, false, length};
-ghost use Rattle.rescue_map.specs.Aheads.{losts_ahead, marks_ahead};
+ghost use Rattle.rescue_map.specs.Aheads.{losts_ahead, marks_ahead, statuses_ahead};
 ghost use Rattle.rescue_map.specs.Maps.{losts, marks};
+ghost use Rattle.rescue_map.specs.Stages.{run_status, statuses};
 
 use crate::map::{Map, Run};
+use crate::stage::Stage;
 
 /// The remaining sectors: the rest of a run, and the runs after it.
 #[derive(Drop)]
@@ -17,12 +19,14 @@ impl<'a> Ahead<'a> {
     pub fn of_map(map: &'a Map) -> Ahead<'a>
         ensures marks { marks_ahead result ≡ marks map.now }
         ensures lost { losts_ahead result ≡ losts map.now }
+        ensures status { statuses_ahead result ≡ statuses map.now }
     {
         Ahead {
             first: Run {
                 count: 0,
                 had: false,
                 lost: false,
+                stage: Stage::Untried,
             },
             rest: map.runs(),
         }
@@ -38,6 +42,7 @@ impl<'a> Ahead<'a> {
                 count,
                 had: false,
                 lost: false,
+                stage: Stage::Untried,
             },
             rest: &[],
         }
@@ -48,6 +53,7 @@ impl<'a> Ahead<'a> {
         requires { 1 ≤ length (marks_ahead self.old) }
         ensures same { marks_ahead self.new ≡ marks_ahead self.old }
         ensures lost { losts_ahead self.new ≡ losts_ahead self.old }
+        ensures status { statuses_ahead self.new ≡ statuses_ahead self.old }
         ensures first { result ≡ self.new.first }
         ensures some { 1 ≤ result.count }
         ensures single { self.old.rest.now ≡ [] → self.new.rest.now ≡ [] }
@@ -64,6 +70,7 @@ impl<'a> Ahead<'a> {
         requires { count ≤ self.old.first.count }
         ensures marks { marks_ahead self.old ≡ replicate count self.old.first.had ++ marks_ahead self.new }
         ensures lost { losts_ahead self.old ≡ replicate count self.old.first.lost ++ losts_ahead self.new }
+        ensures status { statuses_ahead self.old ≡ replicate count (run_status self.old.first) ++ statuses_ahead self.new }
         ensures rest { self.new.rest.now ≡ self.old.rest.now }
     {
         self.first.count -= count;

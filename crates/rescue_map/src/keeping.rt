@@ -5,6 +5,7 @@ ghost use Rattle.rescue_map.specs.Maps.{found_lost, joined, kept_had, kept_lost,
 
 use crate::ahead::Ahead;
 use crate::map::{Map, Run};
+use crate::stage::Stage;
 use allocation::OutOfMemory;
 use std::alloc::Global;
 
@@ -63,6 +64,7 @@ pub fn keep_lost(
             count,
             had: kept_had(again, lost.lost, had.had),
             lost: is_bad(again, lost.lost, had),
+            stage: Stage::Untried,
         })?;
         old.pass(count);
         new.pass(count);

@@ -1,18 +1,23 @@
 //! Which sectors of a device were recovered, and which were found bad.
-ghost use Rattle.std.specs.Prelude.{◌≡◌, ◌+◌, ◌^◌, ◌≤◌, [], ◌∷◌, ◌++◌, false, length, replicate, IfOk, IsTrue, MatchResult, OnOk};
+ghost use Rattle.std.specs.Prelude.{◌≡◌, ◌+◌, ◌^◌, ◌≤◌, [], ◌∷◌, ◌++◌, false, length, replicate, if◌then◌else◌, IfOk, IsTrue, MatchResult, OnOk};
 ghost use Rattle.allocation.specs.Asked.{asked};
+ghost use Rattle.rescue_map.specs.declared.status.Status.TheVariants.{Recovered, Untried};
 ghost use Rattle.rescue_map.specs.Maps.{AreRuns, losts, marks};
+ghost use Rattle.rescue_map.specs.Stages.{run_status, statuses};
 
+use crate::stage::Stage;
 use allocation::{OutOfMemory, push};
 use std::alloc::Global;
 use std::marker::Model;
 
-/// A run of sectors: they were recovered (`had`), a read found them bad (`lost`), or they remain to be read.
+/// A run of sectors: they were recovered (`had`), a read found them bad (`lost`), or they remain to be read, and were tried as far
+/// as their stage.
 #[derive(Clone, Copy, Debug, PartialEq, Eq)]
 pub struct Run {
     pub count: u64,
     pub had: bool,
     pub lost: bool,
+    pub stage: Stage,
 }
 
 /// Which sectors were recovered or found bad, as non-empty runs from the first sector on.
@@ -22,12 +27,25 @@ pub struct Map {
     ghost whole: { AreRuns runs.items },
 }
 
+// Returns whether two stages are the same.
+fn is_same_stage(a: Stage, b: Stage) -> bool
+    ensures { IsTrue result → a ≡ b }
+{
+    match (a, b) {
+        (Stage::Untried, Stage::Untried) => true,
+        (Stage::Untrimmed, Stage::Untrimmed) => true,
+        (Stage::Unscraped, Stage::Unscraped) => true,
+        _ => false,
+    }
+}
+
 // Returns whether the sectors of two runs are in the same state.
 fn is_alike(a: Run, b: Run) -> bool
     ensures had { IsTrue result → a.had ≡ b.had }
     ensures lost { IsTrue result → a.lost ≡ b.lost }
+    ensures stage { IsTrue result → a.stage ≡ b.stage }
 {
-    a.had == b.had && a.lost == b.lost
+    a.had == b.had && a.lost == b.lost && is_same_stage(a.stage, b.stage)
 }
 
 impl Model for Map {
@@ -61,6 +79,7 @@ impl Map {
             (λ map. marks map ≡ replicate count had)
             (λ e. asked e ≡ 1) }
         ensures lost { IfOk result (λ map. losts map ≡ replicate count false) }
+        ensures status { IfOk result (λ map. statuses map ≡ replicate count (if had then Recovered else Untried)) }
     {
         let mut map = Map::new(alloc);
         if count > 0 {
@@ -68,6 +87,7 @@ impl Map {
                 count,
                 had,
                 lost: false,
+                stage: Stage::Untried,
             })?;
         }
         Ok(map)
@@ -105,6 +125,7 @@ impl Map {
             (λ _. marks self.new ≡ marks self.old ++ replicate run.count run.had)
             (λ e. (self.new ≡ self.old) × (asked e ≡ 1)) }
         ensures lost { OnOk result (losts self.new ≡ losts self.old ++ replicate run.count run.lost) }
+        ensures status { OnOk result (statuses self.new ≡ statuses self.old ++ replicate run.count (run_status run)) }
     {
         let end = self.runs.len();
         if end > 0 && is_alike(self.runs[end - 1], run) {

@@ -4,21 +4,21 @@ ghost use Rattle.allocation.specs.Asked.{asked};
 ghost use Rattle.allocation.specs.Refusal.{IsOutOfMemory};
 ghost use Rattle.rescue_map.specs.Kinds.{kind_of, mark_text};
 ghost use Rattle.rescue_map.specs.Maps.{marks};
-ghost use Rattle.rescue_map.specs.MapText.{is_tried, map_of, map_run_text, map_text, status_text, status_word, tail_text, told_map};
+ghost use Rattle.rescue_map.specs.MapText.{map_of, map_run_text, map_text, status_text, tail_text, told_map};
 ghost use Rattle.rescue_map.specs.Tails.{IsTail};
 
 use crate::kind::MapKind;
 use crate::map::{Map, Run};
+use crate::stage::run_status;
 use crate::status::letter;
 use crate::tail::Tail;
+use crate::totals::is_complete;
 use allocation::{OutOfMemory, append, copied, push};
 use itoa::Buffer;
 use std::alloc::Global;
 
-/// Returns the text of a map: the mark of a scan, a status line, a line for each run, in bytes, and one for the tail, if there is any. If `tried` is
-/// `None`, all sectors were tried, and the status is finished. Otherwise only the sectors before `tried` were tried,
-/// the status is copying. A run of bad sectors is `-`; one that remains to be read is `-` too, or `/` with `no_scrape`, if it
-/// ends at `tried` or before, and else `?`.
+/// Returns the text of a map: the mark of a scan, a status line, a line for each run, in bytes, and one for the tail, if there is any. The
+/// status of the whole is finished if no sector remains to be read, with `no_scrape` also if some are unscraped, and else copying.
 ///
 /// # Errors
 ///
@@ -28,19 +28,19 @@ pub fn print_map(
     kind: MapKind,
     map: &Map,
     tail: Tail,
-    tried: Option<u64>,
     no_scrape: bool,
 ) -> Result<Vec<u8>, OutOfMemory>
-    ensures text { IfOk result (λ text. text.items ≡ map_text kind no_scrape tried map.now tail) }
+    ensures text { IfOk result (λ text. text.items ≡ map_text kind no_scrape map.now tail) }
     ensures kind { IfOk result (λ text. kind_of text.items ≡ kind) }
-    ensures reads_back { IfOk result (λ text. IsTail tail → map_of (length (marks map.now)) text.items ≡ Ok (told_map no_scrape tried map.now tail)) }
+    ensures reads_back { IfOk result (λ text. IsTail tail → map_of (length (marks map.now)) text.items ≡ Ok (told_map map.now tail)) }
     ensures err { OnErr result (IsOutOfMemory 40) }
 {
+    let complete = is_complete(map, no_scrape);
     let mut text = copied(alloc, mark_line(kind))?;
-    append(&mut text, status_line(tried))?;
+    append(&mut text, status_line(complete))?;
     let mut at = 0;
     for run in map.runs() {
-        print_run(&mut text, no_scrape, tried, at, *run)?;
+        print_run(&mut text, at, *run)?;
         at += run.count;
     }
     print_tail(&mut text, at, tail)?;
@@ -57,35 +57,23 @@ fn mark_line(kind: MapKind) -> &'static [u8]
     }
 }
 
-fn status_line(tried: Option<u64>) -> &'static [u8]
-    ensures value { result.now ≡ status_text tried ++ 10 ∷ [] }
+fn status_line(complete: bool) -> &'static [u8]
+    ensures value { result.now ≡ status_text complete ++ 10 ∷ [] }
     ensures short { length result.now ≤ 40 }
 {
-    match tried {
-        None => b"0 +\n",
-        Some(_) => b"0 ?\n",
-    }
+    if complete { b"0 +\n" } else { b"0 ?\n" }
 }
 
-fn print_run(
-    text: &mut Vec<u8>,
-    no_scrape: bool,
-    tried: Option<u64>,
-    at: u64,
-    run: Run,
-) -> Result<(), OutOfMemory>
+fn print_run(text: &mut Vec<u8>, at: u64, run: Run) -> Result<(), OutOfMemory>
     requires { at + run.count ≤ 2 ^ 54 }
-    ensures ok { OnOk result (text.new.items ≡ text.old.items ++ map_run_text no_scrape tried at run) }
+    ensures ok { OnOk result (text.new.items ≡ text.old.items ++ map_run_text at run) }
     ensures err { IfErr result (λ e. asked e ≤ 40) }
 {
     push_number(text, at * 512)?;
     push(text, b' ')?;
     push_number(text, run.count * 512)?;
     push(text, b' ')?;
-    append(
-        text,
-        status_word(no_scrape, run, is_tried(tried, at + run.count)),
-    )?;
+    append(text, letter(run_status(run)))?;
     push(text, b'\n')?;
     Ok(())
 }
@@ -115,29 +103,4 @@ fn push_number(text: &mut Vec<u8>, number: u64) -> Result<(), OutOfMemory>
     let mut digits = Buffer::new();
     append(text, digits.format(number).as_bytes())?;
     Ok(())
-}
-
-fn is_tried(tried: Option<u64>, end: u64) -> bool
-    ensures { result ≡ is_tried tried end }
-{
-    match tried {
-        None => true,
-        Some(tried) => end <= tried,
-    }
-}
-
-fn status_word(no_scrape: bool, run: Run, tried: bool) -> &'static [u8]
-    ensures value { result.now ≡ status_word no_scrape run.had run.lost tried }
-    ensures short { length result.now ≤ 40 }
-{
-    if run.had {
-        return b"+";
-    }
-    if run.lost {
-        return b"-";
-    }
-    if !tried {
-        return b"?";
-    }
-    if no_scrape { b"/" } else { b"-" }
 }

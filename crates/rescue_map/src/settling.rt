@@ -1,9 +1,10 @@
 //! The sectors of a map that a pass doesn't read.
 ghost use Rattle.std.specs.Prelude.{◌≡◌, length, IfOk, OnErr};
 ghost use Rattle.allocation.specs.Refusal.{IsOutOfMemory};
-ghost use Rattle.rescue_map.specs.Maps.{is_settled, marks, settled_marks};
+ghost use Rattle.rescue_map.specs.Maps.{is_settled, losts, marks, no_losts, settled_marks};
 
 use crate::map::{Map, Run};
+use crate::stage::Stage;
 use allocation::OutOfMemory;
 use std::alloc::Global;
 
@@ -15,7 +16,7 @@ fn is_settled(run: Run, again: bool) -> bool
 }
 
 /// Returns a map that marks as recovered the sectors that were recovered and, unless they are read again (`again`), the bad
-/// ones.
+/// ones. None is bad in it.
 ///
 /// # Errors
 ///
@@ -23,6 +24,7 @@ fn is_settled(run: Run, again: bool) -> bool
 pub fn settled(alloc: Global, map: &Map, again: bool) -> Result<Map, OutOfMemory>
     ensures ok { IfOk result (λ made. marks made ≡ settled_marks again map.now) }
     ensures sectors { IfOk result (λ made. length (marks made) ≡ length (marks map.now)) }
+    ensures lost { IfOk result (λ made. losts made ≡ no_losts map.now) }
     ensures err { OnErr result (IsOutOfMemory 1) }
 {
     let mut made = Map::new(alloc);
@@ -31,6 +33,7 @@ pub fn settled(alloc: Global, map: &Map, again: bool) -> Result<Map, OutOfMemory
             count: run.count,
             had: is_settled(*run, again),
             lost: false,
+            stage: Stage::Untried,
         })?;
     }
     Ok(made)

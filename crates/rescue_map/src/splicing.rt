@@ -70,6 +70,7 @@ fn move_marks(map: &mut Map, ahead: &mut Ahead<'_>, count: u64) -> Result<(), Ou
             count,
             had: run.had,
             lost: run.lost,
+            stage: run.stage,
         })?;
         ahead.pass(count);
         left -= count;

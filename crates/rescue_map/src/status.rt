@@ -1,6 +1,6 @@
 //! The status of bytes in a map file.
 ghost use Rattle.std.specs.Prelude.{◌≡◌, ◌≤◌, length};
-ghost use Rattle.rescue_map.specs.Statuses.{is_bad, is_recovered, least, letter, rank, status_named};
+ghost use Rattle.rescue_map.specs.Statuses.{is_bad, is_recovered, is_same, least, letter, rank, status_named};
 
 /// The status of a byte in a map file, from the least advanced one on.
 #[derive(Clone, Copy, Debug, PartialEq, Eq)]
@@ -45,6 +45,13 @@ fn rank(status: Status) -> u8
         Status::Bad => 3,
         Status::Recovered => 4,
     }
+}
+
+/// Returns whether two statuses are the same.
+pub(crate) fn is_same(a: Status, b: Status) -> bool
+    ensures { result ≡ is_same a b }
+{
+    rank(a) == rank(b)
 }
 
 /// Returns the less advanced of two statuses.

@@ -2,11 +2,12 @@
 ghost use Rattle.std.specs.Prelude.{◌≡◌, ◌+◌, ◌*◌, ◌<◌, ◌≤◌, ◌^◌, ◌++◌, length, IfOk, MatchResult};
 ghost use Rattle.allocation.specs.Asked.{asked};
 ghost use Rattle.rescue_map.specs.Maps.{marks};
-ghost use Rattle.rescue_map.specs.Tails.{block_runs, block_tail, completed, lacking, no_tail, run_of, tail_of, whole_run};
+ghost use Rattle.rescue_map.specs.Tails.{block_runs, block_tail, completed, lacking, no_tail, tail_of, whole_run};
 
 use crate::block::Block;
-use crate::map::{Map, Run};
-use crate::status::{Status, is_bad, is_recovered, least};
+use crate::map::Map;
+use crate::stage::run_of;
+use crate::status::{Status, least};
 use allocation::OutOfMemory;
 
 /// The bytes of a map after its last whole sector, fewer than 512, and the least advanced of their statuses.
@@ -25,16 +26,6 @@ impl Tail {
             count: 0,
             status: Status::Recovered,
         }
-    }
-}
-
-fn run_of(count: u64, status: Status) -> Run
-    ensures { result ≡ run_of count status }
-{
-    Run {
-        count,
-        had: is_recovered(status),
-        lost: is_bad(status),
     }
 }
 

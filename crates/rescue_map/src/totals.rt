@@ -1,15 +1,19 @@
 //! The numbers of recovered and other sectors of a map.
-ghost use Rattle.std.specs.Prelude.{◌≡◌, ◌+◌, ◌<◌, ◌^◌, ◌||◌, length, nat_le};
+ghost use Rattle.std.specs.Prelude.{◌≡◌, ◌+◌, ◌<◌, ◌^◌, length};
 ghost use Rattle.std.specs.List.{list_all};
-ghost use Rattle.rescue_map.specs.Maps.{is_settled_from, map_totals, marks, with_run};
+ghost use Rattle.rescue_map.specs.Maps.{map_totals, marks, with_run};
+ghost use Rattle.rescue_map.specs.Stages.{is_complete, remains};
 
 use crate::map::{Map, Run};
+use crate::stage::run_status;
+use crate::status::Status;
 
-/// The number of sectors that were recovered, and of those that weren't.
+/// The numbers of sectors that were recovered, of bad ones, and of those that remain to be read.
 #[derive(Clone, Copy, Debug, PartialEq, Eq)]
 pub struct Totals {
     pub had: u64,
-    pub lost: u64,
+    pub bad: u64,
+    pub left: u64,
 }
 
 /// Returns whether all sectors of a map were recovered.
@@ -19,50 +23,52 @@ pub fn is_had(map: &Map) -> bool
     map.runs().iter().all(|run| run.had)
 }
 
-/// Returns whether each run of a map that ends after sector `from` was recovered or is bad, so that none remains to be read there.
-pub fn is_settled_from(map: &Map, from: u64) -> bool
-    ensures { result ≡ is_settled_from from 0 map.now }
+// Returns whether sectors of a status remain to be read, by a pass that may leave unscraped ones.
+fn remains(no_scrape: bool, status: Status) -> bool
+    ensures { result ≡ remains no_scrape status }
 {
-    let mut at = 0;
-    for run in map.runs() {
-        let end = at + run.count;
-        if !is_done(*run, end, from) {
-            return false;
-        }
-        at = end;
+    match status {
+        Status::Untried => true,
+        Status::Untrimmed => true,
+        Status::Unscraped => !no_scrape,
+        Status::Bad => false,
+        Status::Recovered => false,
     }
-    true
 }
 
-// Whether a run that ends before sector `end` was recovered, is bad or ends before sector `from`.
-fn is_done(run: Run, end: u64, from: u64) -> bool
-    ensures { result ≡ (run.had || (run.lost || nat_le end from)) }
+/// Returns whether no sector of a map remains to be read, by a pass that may leave unscraped ones.
+pub(crate) fn is_complete(map: &Map, no_scrape: bool) -> bool
+    ensures { result ≡ is_complete no_scrape map.now }
 {
-    run.had || run.lost || end <= from
+    map.runs()
+        .iter()
+        .all(|run| !remains(no_scrape, run_status(*run)))
 }
 
 fn with_run(totals: Totals, run: Run) -> Totals
-    requires { totals.had + totals.lost + run.count < 2 ^ 64 }
+    requires { totals.had + totals.bad + totals.left + run.count < 2 ^ 64 }
     ensures { result ≡ with_run totals run }
 {
+    let mut totals = totals;
     if run.had {
-        Totals {
-            had: totals.had + run.count,
-            lost: totals.lost,
-        }
+        totals.had += run.count;
+    } else if run.lost {
+        totals.bad += run.count;
     } else {
-        Totals {
-            had: totals.had,
-            lost: totals.lost + run.count,
-        }
+        totals.left += run.count;
     }
+    totals
 }
 
-/// Returns the number of sectors of a map that were recovered, and of those that weren't.
+/// Returns the numbers of sectors of a map that were recovered, of bad ones, and of those that remain to be read.
 pub fn totals_of(map: &Map) -> Totals
     ensures { result ≡ map_totals map.now }
 {
-    let mut totals = Totals { had: 0, lost: 0 };
+    let mut totals = Totals {
+        had: 0,
+        bad: 0,
+        left: 0,
+    };
     for run in map.runs() {
         totals = with_run(totals, *run);
     }

@@ -2,10 +2,11 @@ pub mod OpeningLemmas
 mod PassLemmas
 pub mod ReportLemmas
 mod ChartLemmas
-mod SpanLemmas
 mod MapFileLemmas
 mod TurnLemmas
+mod NextTurnLemmas
 mod LastPassLemmas
+mod PassingLemmas
 mod RetryTurnLemmas
 pub mod NameLemmas
 pub mod PlainLemmas
@@ -14,4 +15,5 @@ mod LawLemmas
 mod LostSectorLemmas
 mod LostMarkLemmas
 mod LostTurnLemmas
+mod FoundRunLemmas
 mod MapUseLemmas

@@ -3,9 +3,12 @@ use Rattle.std.proofs.Common.{◌≡◌, ℕ, zero, suc, ◌+◌, ◌<◌, ◌�
 use Rattle.std.specs.Prelude.{nat_le, nat_lt}
 use Rattle.std.specs.Option.{is_some}
 use Rattle.std.proofs.lemmas.Bool.{and_parts, cases_lt, cond-false, cond-true, eqb-true, le-leb, le-ltb, lt-leb, lt-ltb}
+use Rattle.rescue_map.specs.declared.status.Status.{Status}
+use Rattle.rescue_map.specs.declared.status.Status.TheVariants.{Bad, Recovered, Unscraped, Untried, Untrimmed}
+use Rattle.rescue_map.specs.Statuses.{is_recovered}
 use Rattle.runs.specs.Runs.{follows, run, run_before, runs_of}
 use Rattle.stack_recovery.specs.declared.lost_run.Loss.{Loss}
-use Rattle.stack_recovery.specs.Joins.{joined_state, joined_states, or_known, state_in}
+use Rattle.stack_recovery.specs.Joins.{joined_state, joined_states, or_before, state_in}
 use Rattle.stack_recovery.specs.LostRuns.{LostRun, is_same_loss}
 use Rattle.stack_recovery.specs.Surveys.{SectorState}
 use Rattle.scan_commands.specs.Laws.{is_in, is_within}
@@ -196,20 +199,26 @@ runs-in s (Some f ∷ more) (suc j) =
     ∙ ap (λ (a : Bool). a || is_in (runs_of is_same_loss (suc s) more) (s + suc j)) (within-high (run s 1 f) (s + suc j) (omega arith))
     ∙ ap (is_in (runs_of is_same_loss (suc s) more)) next ∙ runs-in (suc s) more j
 
--- ---- the states of a map's bad sectors and of runs
+-- ---- the states of sectors by their statuses and by runs
 
-pub joined-at : (again : Bool) (at : ℕ) (bads : List Bool) (found : List LostRun) (j : ℕ) → j < length bads → get_or (joined_states again at bads found) j None ≡ joined_state again (get_or bads j false) found (at + j)
-joined-at again at [] found j low = absurd (omega (arith, low))
-joined-at again at (bad ∷ bads) found zero low = let here : at ≡ at + 0 = omega arith in ap (joined_state again bad found) here
-joined-at again at (bad ∷ bads) found (suc j) low =
+pub joined-at : (at : ℕ) (statuses : List Status) (known found : List LostRun) (j : ℕ) → j < length statuses → get_or (joined_states at statuses known found) j None ≡ joined_state (get_or statuses j Untried) known found (at + j)
+joined-at at [] known found j low = absurd (omega (arith, low))
+joined-at at (status ∷ statuses) known found zero low = let here : at ≡ at + 0 = omega arith in ap (joined_state status known found) here
+joined-at at (status ∷ statuses) known found (suc j) low =
     let next : suc at + j ≡ at + suc j = omega arith in
-    joined-at again (suc at) bads found j (omega (arith, low)) ∙ ap (joined_state again (get_or bads j false) found) next
+    joined-at (suc at) statuses known found j (omega (arith, low)) ∙ ap (joined_state (get_or statuses j Untried) known found) next
 
-pub joined-lost : (again bad : Bool) (found : List LostRun) (low high s : ℕ) → AreBetween low high found → is_some (joined_state again bad found s) ≡ (bad && not again) || is_in found s
-joined-lost again bad found low high s p = known (bad && not again) (state_in found s) ∙ ap (λ (x : Bool). (bad && not again) || x) (state-in low high found s p)
+pub joined-lost : (status : Status) (known found : List LostRun) (low high s : ℕ) → AreBetween low high found → is_some (joined_state status known found s) ≡ not (is_recovered status) || is_in found s
+joined-lost status known found low high s p = either status (state_in known s) (state_in found s) ∙ ap (λ (x : Bool). not (is_recovered status) || x) (state-in low high found s p)
   where
-    known : (b : Bool) (x : SectorState) → is_some (or_known b x) ≡ (b || is_some x)
-    known true None = refl
-    known true (Some loss) = refl
-    known false None = refl
-    known false (Some loss) = refl
+    either : (status : Status) (before x : SectorState) → is_some (or_before status before x) ≡ (not (is_recovered status) || is_some x)
+    either Untried before None = refl
+    either Untrimmed before None = refl
+    either Unscraped before None = refl
+    either Bad before None = refl
+    either Recovered before None = refl
+    either Untried before (Some loss) = refl
+    either Untrimmed before (Some loss) = refl
+    either Unscraped before (Some loss) = refl
+    either Bad before (Some loss) = refl
+    either Recovered before (Some loss) = refl

@@ -1,5 +1,6 @@
 -- Map files that are read.
-use Rattle.std.proofs.Common.{◌≡◌, ℕ, Bool, true, false, List, Ok, refl, sym, subst, inr}
+use Rattle.std.proofs.Common.{◌≡◌, ℕ, Bool, true, false, List, length, Ok, refl, sym, ap, ◌∙◌, subst, inr}
+use Rattle.std.proofs.lemmas.List.{length-replicate}
 use Rattle.block_device.specs.declared.open_fault.OpenFault.{OpenFault}
 use Rattle.block_device.specs.declared.open_fault.OpenFault.TheVariants as open_fault
 use Rattle.scan_commands.specs.declared.rescue_fault.PassFault.{PassFault}
@@ -9,9 +10,17 @@ use Rattle.image_files.specs.OpenPlaces.{is_missing}
 use Rattle.image_files.specs.Opener.{Calls}
 use Rattle.rescue_map.specs.declared.kind.MapKind.{MapKind}
 use Rattle.rescue_map.specs.declared.text.ParsedMap.{ParsedMap}
+use Rattle.rescue_map.specs.declared.status.Status.{Status}
+use Rattle.rescue_map.specs.declared.status.Status.TheVariants.{Untried}
 use Rattle.rescue_map.specs.Kinds.{kind_of}
+use Rattle.rescue_map.specs.Maps.{marks}
 use Rattle.rescue_map.specs.MapText.{map_of}
+use Rattle.rescue_map.proofs.lemmas.RunLemmas.{statuses-length}
 use Rattle.scan_commands.specs.MapFiles.{Continues, IsMapOfText, IsMapUnread, IsTextUnread, IsUnread, TellsMap, continues}
+
+-- a map that marks no sector has all sectors
+pub unread-size : (sectors : ℕ) (made : ParsedMap) → IsUnread sectors made → length (marks made.map) ≡ sectors
+unread-size sectors made unread = sym (statuses-length made.map) ∙ ap length unread.0 ∙ length-replicate {A = Status} sectors Untried
 
 pub missing-is : (f : OpenFault) → is_missing f ≡ true → f ≡ open_fault.NotFound
 missing-is open_fault.NotFound e = refl

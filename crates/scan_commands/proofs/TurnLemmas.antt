@@ -1,39 +1,47 @@
 -- A turn over a device.
-use Rattle.std.proofs.Common.{◌≡◌, ◌⊎◌, ℕ, suc, ◌+◌, ◌-◌, ◌<◌, ◌≤◌, ◌^◌, Bool, IsTrue, List, [], ◌∷◌, length, drop, map, Option, Some, Result, Ok, Err, IfErr, IfOk, IsErrAnd, arith, inl, inr, true, refl, sym, ap, ◌∙◌, subst}
+use Rattle.std.proofs.Common.{ℕ, ◌≡◌, ◌⊎◌, suc, ◌+◌, ◌-◌, ◌<◌, ◌≤◌, ◌^◌, Bool, List, [], ◌∷◌, length, map, Option, Some, Result, Ok, Err, IfErr, IfOk, IsErrAnd, append-nil, arith, inl, inr, false, true, refl, sym, ap, ◌∙◌, subst}
+use Rattle.std.proofs.lemmas.Bool.{false≢true}
 use Rattle.allocation.specs.Refusal.{IsOutOfMemory}
 use Rattle.block_device.specs.Device.{Device, HasFailed, IsSameDevice}
-use Rattle.rescue_map.specs.Maps.{marks, settled_marks}
+use Rattle.rescue_map.specs.Maps.{marks}
 use Rattle.stack_rules.specs.Names.{mapped, size}
 use Rattle.stack_rules.proofs.lemmas.PassingLemmas.{out_of_memory-more}
 use Rattle.stack_meaning.specs.Memory.{largest_allocation}
 use Rattle.stack_engine.specs.Stacks.{StackRecord}
 use Rattle.scan_commands.specs.declared.rescue_fault.PassFault.{PassFault}
 use Rattle.scan_commands.specs.declared.rescue_fault.PassFault.TheVariants.{NoMap, NoMemory, Output, TooLong, Unread, Unwritten}
-use Rattle.scan_commands.specs.declared.turns.ReadMap.{ReadMap}
-use Rattle.scan_commands.specs.MapFiles.{MapPathRecord, recovery_ending}
-use Rattle.image_files.specs.declared.texts.ReplaceFault.{ReplaceFault}
+use Rattle.scan_commands.specs.declared.turn_reads.ReadMap.{ReadMap}
+use Rattle.scan_commands.specs.MapFiles.{recovery_ending}
 use Rattle.rescue_map.specs.declared.splicing.Span.{Span}
-use Rattle.scan_commands.specs.Turns.{EndsSectors, EndsUnmapped, FailsToWrite, IsSpan, RunsOut, asked_marks, IsPassTurnsEnd, IsMapUnwritten, IsUnfailed, Kept, Progressed, ReadsInTurns, ReadsLeftUntil, ReadsPast, ReadsSectors, StopsIn, IsTurn, Turns, is_again, kept as kept_by, largest_print_allocation, progressed, made_map, span_between}
+use Rattle.scan_commands.specs.Turns.{IsSpan, asked_marks, Kept, Progressed, ReadsLarge, ReadsLeft, ReadsSectors, is_trim, made_map, most_skipped, scan_in}
+use Rattle.scan_commands.specs.TurnEnds.{EndsSectors, EndsUnmapped, FailsToWrite, RunsOut, IsMapUnwritten, IsUnfailed, StopsIn, largest_print_allocation, skipping_in}
+use Rattle.scan_commands.specs.TurnCalls.{ReadsLeftUntil, ReadsPast}
 use Rattle.stack_recovery.specs.declared.deadline.Deadline.{Deadline}
 use Rattle.stack_recovery.specs.declared.fault.RecoveryFault.{RecoveryFault}
 use Rattle.stack_recovery.specs.declared.fault.RecoveryFault.TheVariants as recovery
 use Rattle.scan_commands.specs.declared.phase.Phase.{Phase}
-use Rattle.scan_commands.specs.declared.phase.Phase.TheVariants.{Rescue, Retry, Skim}
+use Rattle.scan_commands.specs.declared.phase.Phase.TheVariants.{Retry, Scrape, Skim, Sweep, Trim}
 use Rattle.stack_recovery.specs.declared.rescued.Rescued.{Rescued}
 use Rattle.stack_recovery.specs.Deadlines.{EndsAt}
-use Rattle.stack_recovery.specs.FirstPasses.{EndsSkim, SkimsShort, SkimsUntil, Transfer, skimmed}
-use Rattle.stack_recovery.specs.Skips.{least_skip}
-use Rattle.stack_recovery.specs.Skims.{IsSkimOver, Skim as Skimmed, marks_of, skim_marks}
+use Rattle.stack_recovery.specs.FirstPasses.{EndsSkim, SkimsShort, SkimsTo, SkimsUntil, Skipping, Transfer, skimmed, skipping}
+use Rattle.stack_recovery.specs.Skims.{IsSkimOver, Skim as SkimPiece, marks_of, skim_marks}
 use Rattle.stack_recovery.specs.TwoPasses.{transfer_of}
-use Rattle.stack_recovery.specs.PassPieces.{Scanned}
-use Rattle.stack_recovery.specs.Recoveries.{FailsOutput, FindsNoMemory, GoesOverTo, IsMapRefused, RescuesUntil, RunsShort, Sides, counted_sectors, is_had}
-use Rattle.stack_recovery.specs.Surveys.{AnswersFinding, Finding, IsSurveyOver, PieceRead, SectorState, again, all_states, had, kept, lost, states_of}
-use Rattle.scan_commands.proofs.SpanLemmas.{drop-more, settled-after}
+use Rattle.stack_recovery.specs.PassPieces.{Scanned, scanned}
+use Rattle.stack_recovery.specs.Recoveries.{FailsOutput, FindsNoMemory, GoesOverTo, IsMapRefused, IsRescueEnd, RescuesUntil, RunsShort, Sides, counted_sectors, is_had}
+use Rattle.stack_recovery.specs.Surveys.{AnswersFinding, Finding, IsSurveyOver, PieceRead, SectorState, again, all_states, had, kept, lost, probed, states_of, trimmed}
+
+-- whether a pass reads in large pieces
+abbrev pub is_large : Phase → Bool
+is_large Skim = true
+is_large Sweep = true
+is_large other = false
 
 answers-config : (w : StackRecord) (d first n : ℕ) (found : Finding) (w' : StackRecord) → AnswersFinding w d first n found w' → w'.config ≡ w.config
 answers-config w d first n (had bytes) w' a = a.any.config
 answers-config w d first n (lost fault) w' a = a.any.config
 answers-config w d first n (again fault) w' a = a.any.config
+answers-config w d first n (probed behind bytes) w' a = a.any.config
+answers-config w d first n (trimmed behind fault) w' a = a.any.config
 answers-config w d first n kept w' a = ap (λ (s : StackRecord). s.config) a
 
 survey-config : (before : List Bool) (d first : ℕ) (w : StackRecord) (reads : List PieceRead) (w' : StackRecord) → IsSurveyOver before d first w reads w' → w'.config ≡ w.config
@@ -41,7 +49,7 @@ survey-config before d first w [] w' s = ap (λ (t : StackRecord). t.config) s
 survey-config before d first w (r ∷ more) w' s =
     survey-config before d (first + length (states_of r)) r.after more w' s.1 ∙ answers-config w d first r.count r.found r.after s.0.answered
 
-skim-config : (before : List Bool) (d first : ℕ) (w : StackRecord) (skims : List Skimmed) (w' : StackRecord) → IsSkimOver before d first w skims w' → w'.config ≡ w.config
+skim-config : (before : List Bool) (d first : ℕ) (w : StackRecord) (skims : List SkimPiece) (w' : StackRecord) → IsSkimOver before d first w skims w' → w'.config ≡ w.config
 skim-config before d first w [] w' s = ap (λ (t : StackRecord). t.config) s
 skim-config before d first w (x ∷ more) w' s =
     skim-config before d (first + length (marks_of x)) x.piece.after more w' s.1 ∙ answers-config w d first x.piece.count x.piece.found x.piece.after s.0.answered
@@ -49,18 +57,24 @@ skim-config before d first w (x ∷ more) w' s =
 -- the configuration stays
 pub reads-config : (phase : Phase) (wanted : ℕ) (before : List Bool) (scan : Scanned) (old : Sides) (made : ReadMap) (new : Sides) → ReadsSectors phase wanted before scan old made new → new.stack.config ≡ old.stack.config
 reads-config Skim wanted before scan old made new r = skim-config before scan.d 0 old.stack r.0.skims new.stack r.0.survey
-reads-config Rescue wanted before scan old made new r = survey-config before scan.d 0 old.stack r.1.reads new.stack r.1.survey
+reads-config Sweep wanted before scan old made new r = skim-config before scan.d 0 old.stack r.0.skims new.stack r.0.survey
+reads-config Trim wanted before scan old made new r = survey-config before scan.d 0 old.stack r.1.reads new.stack r.1.survey
+reads-config Scrape wanted before scan old made new r = survey-config before scan.d 0 old.stack r.1.reads new.stack r.1.survey
 reads-config Retry wanted before scan old made new r = survey-config before scan.d 0 old.stack r.1.reads new.stack r.1.survey
 
 -- the device stays one, of that size, which may be written
 pub reads-out : (phase : Phase) (wanted : ℕ) (before : List Bool) (scan : Scanned) (old : Sides) (made : ReadMap) (new : Sides) → ReadsSectors phase wanted before scan old made new → IsSameDevice old.out new.out
 reads-out Skim wanted before scan old made new r = r.0.copied.same
-reads-out Rescue wanted before scan old made new r = r.1.copied.same
+reads-out Sweep wanted before scan old made new r = r.0.copied.same
+reads-out Trim wanted before scan old made new r = r.1.copied.same
+reads-out Scrape wanted before scan old made new r = r.1.copied.same
 reads-out Retry wanted before scan old made new r = r.1.copied.same
 
 pub reads-unfailed : (phase : Phase) (wanted : ℕ) (before : List Bool) (scan : Scanned) (old : Sides) (made : ReadMap) (new : Sides) → ReadsSectors phase wanted before scan old made new → new.out.failures ≡ old.out.failures
 reads-unfailed Skim wanted before scan old made new r = r.0.unfailed
-reads-unfailed Rescue wanted before scan old made new r = r.1.unfailed
+reads-unfailed Sweep wanted before scan old made new r = r.0.unfailed
+reads-unfailed Trim wanted before scan old made new r = r.1.unfailed
+reads-unfailed Scrape wanted before scan old made new r = r.1.unfailed
 reads-unfailed Retry wanted before scan old made new r = r.1.unfailed
 
 -- ---- one pass over the sectors of a turn
@@ -76,37 +90,78 @@ reads-past phase deadline wanted before scan old made new inside reads ends =
     let past = ends-past deadline (length (marks made.map)) (size old.stack.config (mapped scan.d)) inside ends in
     record { reads = reads; some = past.0; few = past.1 }
 
-pub skim-reads : (r : Result ReadMap RecoveryFault) (deadline : Deadline) (wanted : ℕ) (before : List Bool) (scan : Scanned) (old new : Sides) → deadline.first < size old.stack.config (mapped scan.d) → new.printed ≡ old.printed
-    → IfOk r (λ made. SkimsUntil (Some deadline) wanted before scan.d (transfer_of old) (skimmed made.map made.skip) (transfer_of new) × (made.untried ≡ 0)) → IfOk r (λ made. ReadsPast Skim wanted before scan deadline.first old made new)
-skim-reads (Ok made) deadline wanted before scan old new inside told p = reads-past Skim deadline wanted before scan old made new inside (p.0.reads, told, p.1) p.0.ends
-skim-reads (Err fault) deadline wanted before scan old new inside told p = tt
+-- a pass in large pieces
+as-sectors : (phase : Phase) (wanted : ℕ) (before : List Bool) (scan : Scanned) (old : Sides) (made : ReadMap) (new : Sides) → is_large phase ≡ true → ReadsLarge phase wanted before scan old made new → ReadsSectors phase wanted before scan old made new
+as-sectors Skim wanted before scan old made new large r = r
+as-sectors Sweep wanted before scan old made new large r = r
+as-sectors Trim wanted before scan old made new large r = absurd (false≢true large)
+as-sectors Scrape wanted before scan old made new large r = absurd (false≢true large)
+as-sectors Retry wanted before scan old made new large r = absurd (false≢true large)
 
-pub rescue-reads : (r : Result ReadMap RecoveryFault) (deadline : Deadline) (wanted : ℕ) (before : List Bool) (scan : Scanned) (old new : Sides) → deadline.first < size old.stack.config (mapped scan.d)
-    → IfOk r (λ made. ReadsLeftUntil (Some deadline) before scan old made new) → IfOk r (λ made. ReadsPast Rescue wanted before scan deadline.first old made new)
-rescue-reads (Ok made) deadline wanted before scan old new inside p = reads-past Rescue deadline wanted before scan old made new inside p.0 p.1
-rescue-reads (Err fault) deadline wanted before scan old new inside p = tt
+-- by the most sectors that it skips
+abbrev pub ReadsLargeUntil : Deadline → Skipping → List Bool → Scanned → Sides → ReadMap → Sides → Type 0
+ReadsLargeUntil deadline skips before scan old made new = SkimsUntil (Some deadline) skips before scan.d (transfer_of old) (skimmed made.map made.skip) (transfer_of new)
 
-pub retry-reads : (r : Result ReadMap RecoveryFault) (deadline : Deadline) (wanted : ℕ) (before : List Bool) (scan : Scanned) (old new : Sides) → deadline.first < size old.stack.config (mapped scan.d)
-    → IfOk r (λ made. ReadsLeftUntil (Some deadline) before scan old made new) → IfOk r (λ made. ReadsPast Retry wanted before scan deadline.first old made new)
-retry-reads (Ok made) deadline wanted before scan old new inside p = reads-past Retry deadline wanted before scan old made new inside p.0 p.1
-retry-reads (Err fault) deadline wanted before scan old new inside p = tt
+pub large-reads : (phase : Phase) (r : Result ReadMap RecoveryFault) (deadline : Deadline) (most wanted : ℕ) (before : List Bool) (scan : Scanned) (old new : Sides) → is_large phase ≡ true → most ≡ most_skipped phase (size old.stack.config (mapped scan.d))
+    → deadline.first < size old.stack.config (mapped scan.d) → new.printed ≡ old.printed → IfOk r (λ made. ReadsLargeUntil deadline (skipping most wanted) before scan old made new) → IfOk r (λ made. ReadsPast phase wanted before scan deadline.first old made new)
+large-reads phase (Ok made) deadline most wanted before scan old new large is inside told p =
+    let reads : ReadsLarge phase wanted before scan old made new =
+    (subst (λ (m : ℕ). SkimsTo (skipping m wanted) before scan.d (length (marks made.map)) (transfer_of old) (skimmed made.map made.skip) (transfer_of new)) is p.reads, told) in
+    reads-past phase deadline wanted before scan old made new inside (as-sectors phase wanted before scan old made new large reads) p.ends
+large-reads phase (Err fault) deadline most wanted before scan old new large is inside told p = tt
+
+-- a pass by single sectors
+as-single : (phase : Phase) (wanted : ℕ) (before : List Bool) (scan : Scanned) (old : Sides) (made : ReadMap) (new : Sides) → is_large phase ≡ false → ReadsLeft before (scan_in phase scan) old made new → ReadsSectors phase wanted before scan old made new
+as-single Skim wanted before scan old made new single r = absurd (false≢true (sym single))
+as-single Sweep wanted before scan old made new single r = absurd (false≢true (sym single))
+as-single Trim wanted before scan old made new single r = r
+as-single Scrape wanted before scan old made new single r = r
+as-single Retry wanted before scan old made new single r = r
+
+pub single-reads : (phase : Phase) (r : Result ReadMap RecoveryFault) (deadline : Deadline) (wanted : ℕ) (before : List Bool) (scan : Scanned) (trims : Bool) (old new : Sides) → is_large phase ≡ false → trims ≡ is_trim phase → deadline.first < size old.stack.config (mapped scan.d)
+    → IfOk r (λ made. ReadsLeftUntil (Some deadline) before (scanned scan.d trims) old made new) → IfOk r (λ made. ReadsPast phase wanted before scan deadline.first old made new)
+single-reads phase (Ok made) deadline wanted before scan trims old new single is inside p =
+    reads-past phase deadline wanted before scan old made new inside (as-single phase wanted before scan old made new single (subst (λ (b : Bool). ReadsLeft before (scanned scan.d b) old made new) is p.0)) p.1
+single-reads phase (Err fault) deadline wanted before scan trims old new single is inside p = tt
 
 length-states : (states : List SectorState) → length (map is_had states) ≡ length states
 length-states [] = refl
 length-states (x ∷ states) = ap suc (length-states states)
 
 -- the sectors that are counted are those of the map
-pub left-until : (deadline : Option Deadline) (before : List Bool) (scan : Scanned) (old : Sides) (rescued : Rescued) (new : Sides) → RescuesUntil deadline before scan old rescued new → ReadsLeftUntil deadline before scan old (made_map rescued.map rescued.counts.untried least_skip) new
+pub left-until : (deadline : Option Deadline) (before : List Bool) (scan : Scanned) (old : Sides) (rescued : Rescued) (new : Sides) → RescuesUntil deadline before scan old rescued new → ReadsLeftUntil deadline before scan old (made_map rescued.map 0) new
 left-until deadline before scan old rescued new p =
     let end : counted_sectors rescued.counts ≡ length (marks rescued.map) = sym (ap length p.goes.noted ∙ length-states (all_states p.goes.reads) ∙ p.goes.whole) in (
-      (rescued.counts, subst (λ (n : ℕ). GoesOverTo before scan n old rescued.counts (Some rescued.map) new) end p.goes, refl, refl),
+      (rescued.counts, subst (λ (n : ℕ). GoesOverTo before scan n old rescued.counts (Some rescued.map) new) end p.goes, refl),
       subst (λ (n : ℕ). EndsAt deadline n (size old.stack.config (mapped scan.d))) end p.ends,
     )
 
-pub skim-ends : (r : Result ReadMap RecoveryFault) (wanted : ℕ) (before : List Bool) (scan : Scanned) (old new : Sides) → new.printed ≡ old.printed → IfErr r (λ fault. EndsSkim wanted before scan.d (transfer_of old) (transfer_of new) fault)
-    → IfErr r (λ fault. EndsSectors Skim wanted before scan old new fault)
-skim-ends (Ok made) wanted before scan old new told e = tt
-skim-ends (Err fault) wanted before scan old new told e = (e, told)
+large-end : (phase : Phase) (wanted : ℕ) (before : List Bool) (scan : Scanned) (old new : Sides) (fault : RecoveryFault) → is_large phase ≡ true → new.printed ≡ old.printed
+    → EndsSkim (skipping_in phase wanted scan old) before scan.d (transfer_of old) (transfer_of new) fault → EndsSectors phase wanted before scan old new fault
+large-end Skim wanted before scan old new fault large told e = (e, told)
+large-end Sweep wanted before scan old new fault large told e = (e, told)
+large-end Trim wanted before scan old new fault large told e = absurd (false≢true large)
+large-end Scrape wanted before scan old new fault large told e = absurd (false≢true large)
+large-end Retry wanted before scan old new fault large told e = absurd (false≢true large)
+
+pub large-ends : (phase : Phase) (r : Result ReadMap RecoveryFault) (most wanted : ℕ) (before : List Bool) (scan : Scanned) (old new : Sides) → is_large phase ≡ true → most ≡ most_skipped phase (size old.stack.config (mapped scan.d)) → new.printed ≡ old.printed
+    → IfErr r (λ fault. EndsSkim (skipping most wanted) before scan.d (transfer_of old) (transfer_of new) fault) → IfErr r (λ fault. EndsSectors phase wanted before scan old new fault)
+large-ends phase (Ok made) most wanted before scan old new large is told e = tt
+large-ends phase (Err fault) most wanted before scan old new large is told e =
+    large-end phase wanted before scan old new fault large told (subst (λ (m : ℕ). EndsSkim (skipping m wanted) before scan.d (transfer_of old) (transfer_of new) fault) is e)
+
+single-end : (phase : Phase) (wanted : ℕ) (before : List Bool) (scan : Scanned) (old new : Sides) (fault : RecoveryFault) → is_large phase ≡ false → IsRescueEnd before (scan_in phase scan) old new fault → EndsSectors phase wanted before scan old new fault
+single-end Skim wanted before scan old new fault single e = absurd (false≢true (sym single))
+single-end Sweep wanted before scan old new fault single e = absurd (false≢true (sym single))
+single-end Trim wanted before scan old new fault single e = e
+single-end Scrape wanted before scan old new fault single e = e
+single-end Retry wanted before scan old new fault single e = e
+
+pub single-ends : (phase : Phase) (r : Result ReadMap RecoveryFault) (wanted : ℕ) (before : List Bool) (scan : Scanned) (trims : Bool) (old new : Sides) → is_large phase ≡ false → trims ≡ is_trim phase
+    → IfErr r (λ fault. IsRescueEnd before (scanned scan.d trims) old new fault) → IfErr r (λ fault. EndsSectors phase wanted before scan old new fault)
+single-ends phase (Ok made) wanted before scan trims old new single is e = tt
+single-ends phase (Err fault) wanted before scan trims old new single is e =
+    single-end phase wanted before scan old new fault single (subst (λ (b : Bool). IsRescueEnd before (scanned scan.d b) old new fault) is e)
 
 -- a failure after a copy that had none
 pub failed-behind : (old left new : Device) → left.failures ≡ old.failures → HasFailed left new → HasFailed old new
@@ -127,8 +182,8 @@ refused-short makes_map before scan old new short = refused short.refused
     refused (inl read) = read.answered.any.may
     refused (inr map) = out_of_memory-more 1 largest_allocation (omega arith) map.1
 
-refused-skim : (wanted : ℕ) (before : List Bool) (d : ℕ) (old new : Transfer Device) → SkimsShort wanted before d old new → IsOutOfMemory largest_allocation
-refused-skim wanted before d old new short = refused short.refused
+refused-skim : (skips : Skipping) (before : List Bool) (d : ℕ) (old new : Transfer Device) → SkimsShort skips before d old new → IsOutOfMemory largest_allocation
+refused-skim skips before d old new short = refused short.refused
   where
     refused : FindsNoMemory d (length (skim_marks short.begun.skims)) short.begun.left new.stack ⊎ IsOutOfMemory 1 → IsOutOfMemory largest_allocation
     refused (inl read) = read.answered.any.may
@@ -139,19 +194,31 @@ pub stops-reading : {S : Type 0} (k : Kept S) (phase : Phase) (now : Progressed 
 stops-reading k Skim now span end before new recovery.NoMemory next wanted e = (
   refl,
   e.0.unfailed,
-  refused-skim now.skip before k.scan.d (transfer_of now.sides) (transfer_of new) e.0,
+  refused-skim (skipping_in Skim now.skip k.scan now.sides) before k.scan.d (transfer_of now.sides) (transfer_of new) e.0,
   inr (inl (record { span = span; end = end; next = next; short = subst (λ (l : List Bool). RunsOut Skim now.skip l k.scan now.sides new) wanted e })),
 )
-stops-reading k Rescue now span end before new recovery.NoMemory next wanted e = (
+stops-reading k Sweep now span end before new recovery.NoMemory next wanted e = (
+  refl,
+  e.0.unfailed,
+  refused-skim (skipping_in Sweep now.skip k.scan now.sides) before k.scan.d (transfer_of now.sides) (transfer_of new) e.0,
+  inr (inl (record { span = span; end = end; next = next; short = subst (λ (l : List Bool). RunsOut Sweep now.skip l k.scan now.sides new) wanted e })),
+)
+stops-reading k Trim now span end before new recovery.NoMemory next wanted e = (
   refl,
   e.unfailed,
-  refused-short true before k.scan now.sides new e,
-  inr (inl (record { span = span; end = end; next = next; short = subst (λ (l : List Bool). RunsOut Rescue now.skip l k.scan now.sides new) wanted e })),
+  refused-short true before (scan_in Trim k.scan) now.sides new e,
+  inr (inl (record { span = span; end = end; next = next; short = subst (λ (l : List Bool). RunsOut Trim now.skip l k.scan now.sides new) wanted e })),
+)
+stops-reading k Scrape now span end before new recovery.NoMemory next wanted e = (
+  refl,
+  e.unfailed,
+  refused-short true before (scan_in Scrape k.scan) now.sides new e,
+  inr (inl (record { span = span; end = end; next = next; short = subst (λ (l : List Bool). RunsOut Scrape now.skip l k.scan now.sides new) wanted e })),
 )
 stops-reading k Retry now span end before new recovery.NoMemory next wanted e = (
   refl,
   e.unfailed,
-  refused-short true before k.scan now.sides new e,
+  refused-short true before (scan_in Retry k.scan) now.sides new e,
   inr (inl (record { span = span; end = end; next = next; short = subst (λ (l : List Bool). RunsOut Retry now.skip l k.scan now.sides new) wanted e })),
 )
 stops-reading k Skim now span end before new recovery.Output next wanted e = (
@@ -160,17 +227,29 @@ stops-reading k Skim now span end before new recovery.Output next wanted e = (
   e.0.sure,
   record { span = span; end = end; next = next; fails = inl (subst (λ (l : List Bool). FailsToWrite Skim now.skip l k.scan now.sides new) wanted e) },
 )
-stops-reading k Rescue now span end before new recovery.Output next wanted e = (
+stops-reading k Sweep now span end before new recovery.Output next wanted e = (
+  refl,
+  e.0.failed,
+  e.0.sure,
+  record { span = span; end = end; next = next; fails = inl (subst (λ (l : List Bool). FailsToWrite Sweep now.skip l k.scan now.sides new) wanted e) },
+)
+stops-reading k Trim now span end before new recovery.Output next wanted e = (
   refl,
   e.failed,
   e.sure,
-  record { span = span; end = end; next = next; fails = inl (subst (λ (l : List Bool). FailsOutput l k.scan now.sides new) wanted e) },
+  record { span = span; end = end; next = next; fails = inl (subst (λ (l : List Bool). FailsOutput l (scan_in Trim k.scan) now.sides new) wanted e) },
+)
+stops-reading k Scrape now span end before new recovery.Output next wanted e = (
+  refl,
+  e.failed,
+  e.sure,
+  record { span = span; end = end; next = next; fails = inl (subst (λ (l : List Bool). FailsOutput l (scan_in Scrape k.scan) now.sides new) wanted e) },
 )
 stops-reading k Retry now span end before new recovery.Output next wanted e = (
   refl,
   e.failed,
   e.sure,
-  record { span = span; end = end; next = next; fails = inl (subst (λ (l : List Bool). FailsOutput l k.scan now.sides new) wanted e) },
+  record { span = span; end = end; next = next; fails = inl (subst (λ (l : List Bool). FailsOutput l (scan_in Retry k.scan) now.sides new) wanted e) },
 )
 
 pub stops-unwritten : {S : Type 0} (k : Kept S) (phase : Phase) (now : Progressed S) (text : List ℕ) (images : S) (new : Sides) (fault : PassFault)
@@ -182,33 +261,6 @@ stops-unwritten k phase now text images new (NoMap cause) u r e = absurd e
 stops-unwritten k phase now text images new Output u r e = absurd e
 stops-unwritten k phase now text images new (Unwritten cause) u r e = (text, e, u, r)
 
--- ---- turns one after another
-
-pub turn-config : {S : Type 0} (k : Kept S) (phase : Phase) (old new : Progressed S) → IsTurn k phase old new → new.sides.stack.config ≡ old.sides.stack.config
-turn-config k phase old new t = ap (λ (s : Sides). s.stack.config) t.on_medium ∙ reads-config phase _ _ k.scan old.sides t.made t.left t.reads
-
-pub turn-out : {S : Type 0} (k : Kept S) (phase : Phase) (old new : Progressed S) → IsTurn k phase old new → (new.sides.out.size ≡ old.sides.out.size) × (IsTrue old.sides.out.may_write → IsTrue new.sides.out.may_write)
-turn-out k phase old new t =
-    let same = reads-out phase _ _ k.scan old.sides t.made t.left t.reads in
-    (ap (λ (s : Sides). s.out.size) t.on_medium ∙ same.size, λ h. subst IsTrue (sym (ap (λ (s : Sides). s.out.may_write) t.on_medium ∙ same.may_write)) h)
-
--- what a pass doesn't read after the turn is what it didn't before
-pub turned-wanted : {S : Type 0} (k : Kept S) (phase : Phase) (old new : Progressed S) (done : List Bool) → length (marks old.runs) ≡ k.sectors
-    → drop old.at done ≡ drop old.at (settled_marks (is_again phase) old.runs) → IsTurn k phase old new → drop new.at done ≡ drop new.at (settled_marks (is_again phase) new.runs)
-turned-wanted k phase old new done all same t =
-    let n : ℕ = new.at - old.at in
-    let at : new.at ≡ old.at + n = omega (arith, t.some) in
-    ap (λ (m : ℕ). drop m done) at ∙ drop-more old.at n done (settled_marks (is_again phase) old.runs) same ∙ ap (λ (m : ℕ). drop m (settled_marks (is_again phase) old.runs)) (sym at)
-    ∙ sym (settled-after (is_again phase) (span_between old.at new.at) new.at old.runs new.runs t.made.map at (omega (arith, t.here, t.next.inside, all)) (omega (arith, t.here)) t.map t.bad)
-
--- the size of the device as it was told
-pub ends-as : {S : Type 0} (replaces : S → List ℕ → List ℕ → Result (Unit {0}) ReplaceFault → S → Type 0) (file : MapPathRecord) (phase : Phase) (scan : Scanned) (m n : ℕ) (first now : Progressed S) (images : S) (new : Sides) (fault : PassFault)
-    → m ≡ n → Turns (kept_by replaces file scan m) phase first now → StopsIn (kept_by replaces file scan m) phase now images new fault → IsPassTurnsEnd (kept_by replaces file scan n) phase first images new fault
-ends-as replaces file phase scan m n first now images new fault e t s =
-    subst (λ (k : ℕ). IsPassTurnsEnd (kept_by replaces file scan k) phase first images new fault) e (record { now = now; turns = t; stops = s })
-
-pub whole-as : {S : Type 0} (replaces : S → List ℕ → List ℕ → Result (Unit {0}) ReplaceFault → S → Type 0) (file : MapPathRecord) (phase : Phase) (scan : Scanned) (m n at : ℕ) (first : Progressed S) (images : S) (new : Sides) (made : ReadMap)
-    → m ≡ n → at ≡ m → Turns (kept_by replaces file scan m) phase first (progressed images new made.map at made.untried made.skip) → ReadsInTurns (kept_by replaces file scan n) phase first images new made
-whole-as replaces file phase scan m n at first images new made e here t =
-    subst (λ (k : ℕ). ReadsInTurns (kept_by replaces file scan k) phase first images new made) e
-    (subst (λ (k : ℕ). Turns (kept_by replaces file scan m) phase first (progressed images new made.map k made.untried made.skip)) here t)
+-- the sectors were done, and room for a map was refused
+pub stops-unmapped : {S : Type 0} (k : Kept S) (phase : Phase) (now : Progressed S) (new : Sides) → IsUnfailed now.sides new → EndsUnmapped k phase now new → IsOutOfMemory 1 → StopsIn k phase now now.images new NoMemory
+stops-unmapped k phase now new u r may = (refl, u, out_of_memory-more 1 largest_allocation (omega arith) may, inr (inr r))

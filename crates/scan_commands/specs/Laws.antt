@@ -4,18 +4,16 @@ use Rattle.std.specs.List.{slice_index_or}
 use Rattle.block_device.specs.Device.{Device}
 use Rattle.image_files.specs.Opener.{Opener, calls}
 use Rattle.rescue_map.specs.declared.map.Run.{Run}
-use Rattle.rescue_map.specs.Maps.{losts, marks}
+use Rattle.rescue_map.specs.Maps.{marks}
+use Rattle.rescue_map.specs.Stages.{statuses}
 use Rattle.runs.specs.Runs.{runs_of}
 use Rattle.stack_rules.specs.Names.{mapped, size}
 use Rattle.stack_recovery.specs.declared.recovery.Counts.{Counts}
 use Rattle.stack_recovery.specs.Joins.{joined_states}
 use Rattle.stack_recovery.specs.LostRuns.{LostRun, is_same_loss}
 use Rattle.stack_recovery.specs.Retries.{Retried}
-use Rattle.scan_commands.specs.declared.phase.Phase.{Phase}
 use Rattle.scan_commands.specs.MapFiles.{MapPathRecord}
 use Rattle.scan_commands.specs.Passes.{IsRescued, Moving}
-use Rattle.scan_commands.specs.PassesInTurns.{phase_after}
-use Rattle.scan_commands.specs.Turns.{is_again}
 
 -- a sector is in a run, or in one of several
 abbrev pub is_within : LostRun → ℕ → Bool
@@ -25,12 +23,12 @@ abbrev pub is_in : List LostRun → ℕ → Bool
 is_in [] s = false
 is_in (r ∷ more) s = is_within r s || is_in more s
 
--- the runs that are reported of a last pass that made this map and found these runs
-abbrev pub reported : Phase → List Run → List LostRun → List LostRun
-reported phase runs found = runs_of is_same_loss 0 (joined_states (is_again phase) 0 (losts runs) found)
+-- the runs that are reported of a last pass that made this map and found these runs, after others that were known
+abbrev pub reported : List Run → List LostRun → List LostRun → List LostRun
+reported runs known found = runs_of is_same_loss 0 (joined_states 0 (statuses runs) known found)
 
 -- With a map file a sector is in a reported run exactly if the last map doesn't mark it as recovered.
 abbrev pub LostRunsAreUnrecovered : {S D : Type 0} → Opener S D → (D → Device) → Type 0
 LostRunsAreUnrecovered {S} relations state =
     (old new : S) (file : MapPathRecord) (t : Retried) (m : Moving) (counts : Counts) (r : IsRescued (calls relations state old new) file t m counts) (s : ℕ) → s < size m.old.stack.config (mapped t.d)
-    → is_in (reported (phase_after r.rescued.passes) r.rescued.last.made.map r.rescued.last.found) s ≡ not (slice_index_or (marks r.rescued.last.made.map) s false)
+    → is_in (reported r.rescued.last.made.map r.rescued.known r.rescued.last.found) s ≡ not (slice_index_or (marks r.rescued.last.made.map) s false)

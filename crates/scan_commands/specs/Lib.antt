@@ -9,6 +9,8 @@ pub mod MapFiles
 pub mod MapTexts
 pub mod MapUses
 pub mod Turns
+pub mod TurnEnds
+pub mod TurnCalls
 pub mod Devices
 pub mod DeviceLines
 pub mod LostJson

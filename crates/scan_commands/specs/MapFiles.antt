@@ -12,7 +12,8 @@ use Rattle.rescue_map.specs.declared.kind.MapKind.TheVariants.{Copy, Scan}
 use Rattle.rescue_map.specs.declared.tail.Tail.{Tail}
 use Rattle.rescue_map.specs.declared.text.ParsedMap.{ParsedMap}
 use Rattle.rescue_map.specs.Kinds.{kind_of}
-use Rattle.rescue_map.specs.Maps.{losts, marks}
+use Rattle.rescue_map.specs.declared.status.Status.TheVariants.{Untried}
+use Rattle.rescue_map.specs.Stages.{statuses}
 use Rattle.rescue_map.specs.MapText.{IsMapAnswer, map_of}
 use Rattle.rescue_map.specs.Tails.{no_tail}
 use Rattle.scan_commands.specs.declared.rescue_fault.PassFault.{PassFault}
@@ -35,9 +36,9 @@ abbrev pub continues : MapKind → MapKind → Bool
 continues Copy Scan = false
 continues kind read = true
 
--- no sector was read before or is bad, and there are no more bytes
+-- no sector was tried before, and there are no more bytes
 abbrev pub IsUnread : ℕ → ParsedMap → Type 0
-IsUnread sectors made = (marks made.map ≡ replicate sectors false) × (losts made.map ≡ replicate sectors false) × (made.tail ≡ no_tail)
+IsUnread sectors made = (statuses made.map ≡ replicate sectors Untried) × (made.tail ≡ no_tail)
 
 -- the map that a text holds, if it is continued
 abbrev pub Continues : Bool → ℕ → ParsedMap → ParsedMap → Type 0

@@ -1,8 +1,9 @@
 -- The passes over a device with a map file, each in turns.
-use Rattle.std.specs.Prelude.{◌≡◌, ◌⊎◌, ℕ, ◌-◌, ◌<◌, ◌==◌, true, false, List, [], if◌then◌else◌}
+use Rattle.std.specs.Prelude.{◌≡◌, ◌⊎◌, ℕ, ◌<◌, ◌==◌, Bool, true, false, List, [], if◌then◌else◌}
 use Rattle.block_device.specs.Device.{Device}
 use Rattle.rescue_map.specs.declared.map.Run.{Run}
-use Rattle.rescue_map.specs.Maps.{losts, map_totals}
+use Rattle.rescue_map.specs.Maps.{map_totals}
+use Rattle.rescue_map.specs.Stages.{statuses}
 use Rattle.rescue_map.specs.declared.totals.Totals.{Totals}
 use Rattle.stack_engine.specs.Stacks.{StackRecord}
 use Rattle.stack_recovery.specs.declared.recovery.Counts.{Counts}
@@ -14,12 +15,13 @@ use Rattle.stack_recovery.specs.LostRuns.{LostRun, is_same_loss}
 use Rattle.runs.specs.Runs.{runs_of}
 use Rattle.allocation.specs.Refusal.{IsOutOfMemory}
 use Rattle.scan_commands.specs.declared.phase.Phase.{Phase}
-use Rattle.scan_commands.specs.declared.phase.Phase.TheVariants.{Rescue, Retry, Skim}
+use Rattle.scan_commands.specs.declared.phase.Phase.TheVariants.{Retry, Scrape, Skim, Sweep, Trim}
 use Rattle.scan_commands.specs.declared.rescue_fault.PassFault.{PassFault}
 use Rattle.scan_commands.specs.declared.rescue_fault.PassFault.TheVariants.{NoMemory}
 use Rattle.scan_commands.specs.declared.retries.TriedMap.{TriedMap}
-use Rattle.scan_commands.specs.declared.turns.ReadMap.{ReadMap}
-use Rattle.scan_commands.specs.Turns.{IsPassTurnsEnd, Kept, Progressed, ReadsInTurns, begun_with, is_again, made_map, map_so_far}
+use Rattle.scan_commands.specs.declared.turn_reads.ReadMap.{ReadMap}
+use Rattle.scan_commands.specs.Turns.{begun_with, made_map, Kept, Progressed, ReadsInTurns}
+use Rattle.scan_commands.specs.TurnEnds.{IsPassTurnsEnd}
 
 -- what the turns of a pass leave: the opener, and the stack, the output device and the map
 pub record AfterTurns (S : Type 0) : Type 0 where
@@ -29,23 +31,36 @@ pub record AfterTurns (S : Type 0) : Type 0 where
 abbrev pub after_turns : {S : Type 0} → S → StackRecord → Device → List Run → AfterTurns S
 after_turns images stack out map = record { images = images; left = after_pass stack out map }
 
--- how many sectors a map marks as read, and how many of the others are lost and unscraped
-abbrev pub counts_of : Totals → ℕ → Counts
-counts_of totals untried = record { read = totals.had; lost = totals.lost - untried; untried = untried }
+-- how many sectors of a map were recovered, are bad and remain to be read
+abbrev pub counts_of : Totals → Counts
+counts_of totals = record { read = totals.had; lost = totals.bad; untried = totals.left }
 
--- the next pass begins at the first sector
-abbrev pub pass_from : {S : Type 0} → AfterTurns S → Listed → Progressed S
-pass_from a printed = begun_with a.images (sides a.left.stack a.left.out printed) a.left.map
+-- a pass over so many sectors begins at the first one
+abbrev pub pass_from : {S : Type 0} → Phase → ℕ → AfterTurns S → Listed → Progressed S
+pass_from phase sectors a printed = begun_with phase sectors a.images (sides a.left.stack a.left.out printed) a.left.map
 
--- the pass after the first one and n further ones
-abbrev pub phase_after : ℕ → Phase
-phase_after n = if n == 0 then Rescue else Retry
+-- a pass that reported to nobody
+abbrev pub IsSilentPass : {S : Type 0} → Kept S → Phase → AfterTurns S → AfterTurns S → Type 0
+IsSilentPass k phase old new =
+    (before : Listed) × (after : Listed) × (skip : ℕ) × ReadsInTurns k phase (pass_from phase k.sectors old before) new.images (sides new.left.stack new.left.out after) (made_map new.left.map skip)
 
--- the pass after the first one and n further ones, which reported to nobody
+-- the passes in large pieces, which report nothing
+pub record SweepsInTurns {S : Type 0} (k : Kept S) (old new : AfterTurns S) : Type 0 where
+  pub between : AfterTurns S
+  pub skims : IsSilentPass k Skim old between
+  pub sweeps : IsSilentPass k Sweep between new
+
+-- ---- those by single sectors
+
+-- the pass after the one that trims and n further ones; if none scrapes, one trims again, which has nothing to read
+abbrev pub phase_after : Bool → ℕ → Phase
+phase_after no_scrape n = if n == 0 then (if no_scrape then Trim else Scrape) else Retry
+
+-- such a pass, which reported to nobody
 abbrev pub IsSilentTurns : {S : Type 0} → Kept S → ℕ → AfterTurns S → AfterTurns S → Type 0
-IsSilentTurns k n old new = (before : Listed) × (after : Listed) × (untried : ℕ) × (skip : ℕ) × ReadsInTurns k (phase_after n) (pass_from old before) new.images (sides new.left.stack new.left.out after) (made_map new.left.map untried skip)
+IsSilentTurns k n old new = IsSilentPass k (phase_after k.scan.no_scrape n) old new
 
--- so many passes after the first one, which reported to nobody; one for each retry, or fewer if no sector is left to be read
+-- so many passes after the one that trims, which reported to nobody; one for each retry, or fewer if no sector is left to be read
 abbrev pub RetriesInTurns : {S : Type 0} → Kept S → ℕ → AfterTurns S → ℕ → AfterTurns S → Type 0
 RetriesInTurns k retries old passes new = Steps (IsSilentTurns k) old passes new × IsEnough retries passes new.left.map
 
@@ -53,23 +68,32 @@ RetriesInTurns k retries old passes new = Steps (IsSilentTurns k) old passes new
 abbrev pub nothing : Listed
 nothing = kept_runs [] false
 
--- The last pass. Its lost runs were kept, and then the longest runs were reported: of these, and of the sectors that its map has as bad
--- and that it didn't read again.
-pub record ReportsLast {S : Type 0} (k : Kept S) (phase : Phase) (old : AfterTurns S) (printed : Listed) (images : S) (new : Sides) (counts : Counts) : Type 0 where
+-- a pass whose lost runs were kept
+pub record KeepsTurns {S : Type 0} (k : Kept S) (phase : Phase) (old new : AfterTurns S) (found : List LostRun) : Type 0 where
+  pub made : ReadMap
+  pub reads : ReadsInTurns k phase (pass_from phase k.sectors old nothing) new.images (sides new.left.stack new.left.out (kept_runs found false)) made
+  pub map : new.left.map ≡ made.map
+
+-- The last pass. Its lost runs were kept, and then the longest runs were reported: of these, and of the sectors that its map doesn't have
+-- as recovered and that it didn't read, some of which are in the runs known before.
+pub record ReportsLast {S : Type 0} (k : Kept S) (phase : Phase) (known : List LostRun) (old : AfterTurns S) (printed : Listed) (images : S) (new : Sides) (counts : Counts) : Type 0 where
   pub made : ReadMap
   pub found : List LostRun
-  pub reads : ReadsInTurns k phase (pass_from old nothing) images (sides new.stack new.out (kept_runs found false)) made
-  pub told : Tells printed new.printed (runs_of is_same_loss 0 (joined_states (is_again phase) 0 (losts made.map) found))
-  pub counted : counts ≡ counts_of (map_totals made.map) made.untried
+  pub reads : ReadsInTurns k phase (pass_from phase k.sectors old nothing) images (sides new.stack new.out (kept_runs found false)) made
+  pub told : Tells printed new.printed (runs_of is_same_loss 0 (joined_states 0 (statuses made.map) known found))
+  pub counted : counts ≡ counts_of (map_totals made.map)
 
--- The first pass, those that report nothing, and the last one, with a map between them.
-pub record RescuesInTurns {S : Type 0} (k : Kept S) (retries : ℕ) (first : Progressed S) (images : S) (new : Sides) (counts : Counts) : Type 0 where
-  pub between : Progressed S
+-- The passes in large pieces, the one that trims, those that report nothing, and the last one, with a map between them.
+pub record RescuesInTurns {S : Type 0} (k : Kept S) (retries : ℕ) (first : AfterTurns S) (printed : Listed) (images : S) (new : Sides) (counts : Counts) : Type 0 where
+  pub swept : AfterTurns S
+  pub between : AfterTurns S
+  pub known : List LostRun
   pub passes : ℕ
   pub left : AfterTurns S
-  pub skims : ReadsInTurns k Skim first between.images between.sides (map_so_far between)
-  pub again : RetriesInTurns k retries (after_turns between.images between.sides.stack between.sides.out between.runs) passes left
-  pub last : ReportsLast k (phase_after passes) left between.sides.printed images new counts
+  pub large : SweepsInTurns k first swept
+  pub trims : KeepsTurns k Trim swept between known
+  pub again : RetriesInTurns k retries between passes left
+  pub last : ReportsLast k (phase_after k.scan.no_scrape passes) known left printed images new counts
 
 -- ---- a pass that ended early
 
@@ -81,41 +105,57 @@ pub record EndsRetries {S : Type 0} (k : Kept S) (retries : ℕ) (old : AfterTur
   pub after : Listed
   pub steps : Steps (IsSilentTurns k) old passes left
   pub few : passes < retries
-  pub ends : IsPassTurnsEnd k (phase_after passes) (pass_from left before) images (sides stack out after) fault
+  pub ends : IsPassTurnsEnd k (phase_after k.scan.no_scrape passes) (pass_from (phase_after k.scan.no_scrape passes) k.sectors left before) images (sides stack out after) fault
 
--- room for a lost run of the last pass was refused, which was completed
+-- room for a lost run of a pass was refused, which was completed
 pub record RefusesRun {S : Type 0} (k : Kept S) (phase : Phase) (old : AfterTurns S) (images : S) (stack : StackRecord) (out : Device) (fault : PassFault) : Type 0 where
   pub made : ReadMap
   pub kept : Listed
-  pub reads : ReadsInTurns k phase (pass_from old nothing) images (sides stack out kept) made
+  pub reads : ReadsInTurns k phase (pass_from phase k.sectors old nothing) images (sides stack out kept) made
   pub refused : kept.failed ≡ true
   pub may : IsOutOfMemory 1
   pub is : fault ≡ NoMemory
 
--- the last pass ended early, or a run of it couldn't be kept
+-- a pass whose lost runs are kept ended early, or a run of it couldn't be kept
 abbrev pub EndsLast : {S : Type 0} → Kept S → Phase → AfterTurns S → S → StackRecord → Device → PassFault → Type 0
 EndsLast k phase old images stack out fault =
-    ((kept : Listed) × IsPassTurnsEnd k phase (pass_from old nothing) images (sides stack out kept) fault) ⊎ RefusesRun k phase old images stack out fault
+    ((kept : Listed) × IsPassTurnsEnd k phase (pass_from phase k.sectors old nothing) images (sides stack out kept) fault) ⊎ RefusesRun k phase old images stack out fault
 
 pub record EndsLastTurns {S : Type 0} (k : Kept S) (retries : ℕ) (old : AfterTurns S) (images : S) (stack : StackRecord) (out : Device) (fault : PassFault) : Type 0 where
   pub left : AfterTurns S
   pub passes : ℕ
   pub again : RetriesInTurns k retries old passes left
-  pub ends : EndsLast k (phase_after passes) left images stack out fault
+  pub ends : EndsLast k (phase_after k.scan.no_scrape passes) left images stack out fault
+
+-- the pass that trims was completed, and a later one ended early
+pub record EndsAfterTrims {S : Type 0} (k : Kept S) (retries : ℕ) (old : AfterTurns S) (images : S) (stack : StackRecord) (out : Device) (fault : PassFault) : Type 0 where
+  pub between : AfterTurns S
+  pub known : List LostRun
+  pub trims : KeepsTurns k Trim old between known
+  pub ends : EndsRetries k retries between images stack out fault ⊎ EndsLastTurns k retries between images stack out fault
 
 -- nothing is reported
 abbrev pub EndsLaterTurns : {S : Type 0} → Kept S → ℕ → AfterTurns S → Listed → S → Sides → PassFault → Type 0
 EndsLaterTurns k retries old printed images new fault =
-    (EndsRetries k retries old images new.stack new.out fault ⊎ EndsLastTurns k retries old images new.stack new.out fault) × (new.printed ≡ printed)
+    (EndsLast k Trim old images new.stack new.out fault ⊎ EndsAfterTrims k retries old images new.stack new.out fault) × (new.printed ≡ printed)
 
--- the first pass was completed, and a later one wasn't
-pub record IsRescueTurnsEnd {S : Type 0} (k : Kept S) (retries : ℕ) (first : Progressed S) (images : S) (new : Sides) (fault : PassFault) : Type 0 where
-  pub between : Progressed S
-  pub skims : ReadsInTurns k Skim first between.images between.sides (map_so_far between)
-  pub later : EndsLaterTurns k retries (after_turns between.images between.sides.stack between.sides.out between.runs) between.sides.printed images new fault
+-- the passes in large pieces were completed, and a later one wasn't
+pub record IsRescueTurnsEnd {S : Type 0} (k : Kept S) (retries : ℕ) (first : AfterTurns S) (printed : Listed) (images : S) (new : Sides) (fault : PassFault) : Type 0 where
+  pub between : AfterTurns S
+  pub large : SweepsInTurns k first between
+  pub later : EndsLaterTurns k retries between printed images new fault
 
-abbrev pub IsTurnsEnd : {S : Type 0} → Kept S → ℕ → Progressed S → S → Sides → PassFault → Type 0
-IsTurnsEnd k retries first images new fault = IsPassTurnsEnd k Skim first images new fault ⊎ IsRescueTurnsEnd k retries first images new fault
+-- a pass that reports nothing ended early
+abbrev pub EndsSilently : {S : Type 0} → Kept S → Phase → AfterTurns S → S → StackRecord → Device → PassFault → Type 0
+EndsSilently k phase old images stack out fault =
+    (before : Listed) × (after : Listed) × IsPassTurnsEnd k phase (pass_from phase k.sectors old before) images (sides stack out after) fault
+
+-- the first pass in large pieces ended early, or it was completed, and the second one ended early
+abbrev pub EndsSweeping : {S : Type 0} → Kept S → AfterTurns S → S → StackRecord → Device → PassFault → Type 0
+EndsSweeping {S} k first images stack out fault = EndsSilently k Skim first images stack out fault ⊎ ((between : AfterTurns S) × IsSilentPass k Skim first between × EndsSilently k Sweep between images stack out fault)
+
+abbrev pub IsTurnsEnd : {S : Type 0} → Kept S → ℕ → AfterTurns S → Listed → S → Sides → PassFault → Type 0
+IsTurnsEnd k retries first printed images new fault = (EndsSweeping k first images new.stack new.out fault × (new.printed ≡ printed)) ⊎ IsRescueTurnsEnd k retries first printed images new fault
 
 -- ---- in terms of the arguments of a call
 

@@ -23,7 +23,9 @@ mod scan;
 mod tree;
 mod tree_place;
 mod tree_rows;
+mod trimming;
 mod turn_map;
+mod turn_reads;
 mod turns;
 
 pub use copy::{CopyPlan, copy_device};
@@ -39,4 +41,5 @@ pub use report::{has_missing, say_counts, tell_counts};
 pub use rescue_fault::PassFault;
 pub use scan::{ScanPlan, scan_device};
 pub use tree::say_tree;
-pub use turns::{ReadMap, read_in_turns};
+pub use turn_reads::ReadMap;
+pub use turns::read_in_turns;

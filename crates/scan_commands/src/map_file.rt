@@ -31,7 +31,7 @@ pub fn map_at<'a>(path: Option<&'a str>, kind: MapKind) -> Option<MapPath<'a>>
     Some(MapPath { path, kind, tail })
 }
 
-/// A map of a device, the file that it is kept in, and the pass that goes by it, which may leave failed pieces unsearched.
+/// A map of a device, the file that it is kept in, the pass that goes by it, and whether unscraped sectors are left.
 #[derive(Drop)]
 pub struct MapFile<'a> {
     pub file: MapPath<'a>,

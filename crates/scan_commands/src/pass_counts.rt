@@ -12,7 +12,7 @@ use image_files::Images;
 use stack_recovery::{Counts, Listing};
 use std::alloc::Global;
 
-/// How many sectors of a device were read, are lost and are unscraped, and how many data blocks parity restored meanwhile.
+/// How many sectors of a device were read, are lost and are unscraped, and how many blocks parity restored meanwhile.
 #[derive(Clone, Copy, Debug, PartialEq, Eq)]
 pub struct PassCounts {
     pub sectors: Counts,

@@ -2,21 +2,24 @@
 ghost use Rattle.std.specs.Prelude.{◌≡◌, length, IfOk, IfErr};
 ghost use Rattle.rescue_map.specs.Maps.{marks};
 ghost use Rattle.stack_rules.specs.Names.{mapped, size};
-ghost use Rattle.scan_commands.specs.Passes.{CanPass, EndsLastBy, PassesBy, PassesMapBy, ReportsLastBy, StopsBy, StopsMapBy};
+ghost use Rattle.scan_commands.specs.Passes.{CanPass, EndsLargeMapBy, EndsLastBy, LeavesPassing, PassesBy, PassesMapBy, ReadsLargeMapBy, ReportsLastBy, StopsBy, StopsMapBy};
 ghost use Rattle.scan_commands.specs.PassesInTurns.{counts_of};
 
 use crate::map_file::{MapFile, MapPath, read_map};
-use crate::phase::{Phase, is_again, phase_after};
+use crate::phase::{Phase, phase_after};
 use crate::rescue_fault::PassFault;
 use crate::retries::retry_in_turns;
+use crate::trimming::{TrimmedMap, trim_in_turns};
 use crate::turns::read_in_turns;
 use block_device::{BlockDev, SyncDev};
 use device_adapters::Progress;
 use image_files::Images;
-use rescue_map::{ParsedMap, Totals, totals_of};
+use rescue_map::{Map, ParsedMap, Totals, totals_of};
 use stack_config::DevId;
 use stack_engine::Stack;
-use stack_recovery::{Counts, KeptRuns, Listing, RecoveryPlan, recover_with, tell_among_bad};
+use stack_recovery::{
+    Counts, KeptRuns, Listing, LostRun, NoListing, RecoveryPlan, recover_with, tell_among_bad,
+};
 use std::alloc::Global;
 
 /// A mapped device of a stack, the device that its readable sectors are copied to, how many times lost sectors are read again, and
@@ -35,10 +38,10 @@ pub struct Passing<D: BlockDev, O> {
 /// what the first one left. Then sectors that are lost are read again, at most as many times as the retries. Only the last pass
 /// reports.
 ///
-/// With a map file, only sectors that the map doesn't mark as read are read, and bad ones only in the passes that read lost
-/// sectors again; without these, bad sectors are reported too, by the fault of binding 0. Runs are reported after the last pass. Each pass
-/// goes in turns; after each turn the other device is synced and the map file replaced. Without a map file the opener isn't called, and
-/// nothing is synced.
+/// With a map file each pass reads the sectors of one status: those in large pieces what is untried, the one that trims what is untrimmed,
+/// the one that scrapes, if any, what is unscraped, and those that read lost sectors again what is bad. Runs are reported after the last
+/// pass, also of sectors that no pass read, by the fault of binding 0. Each pass goes in turns; after each turn the other device is synced
+/// and the map file replaced. Without a map file the opener isn't called, and nothing is synced.
 ///
 /// # Errors
 ///
@@ -98,48 +101,77 @@ fn pass_by_map<'a, I: Images, D: BlockDev, O: SyncDev, L: Listing, P: Progress>(
         kind: file.kind,
         tail,
     };
+    let swept = read_large_in_turns(alloc, images, passing, file, map, progress)?;
+    let trimmed = trim_in_turns(alloc, images, passing, file, swept, progress)?;
+    let TrimmedMap { map, known } = trimmed;
+    let left = retry_in_turns(alloc, images, passing, file, map, progress)?;
+    let phase = phase_after(no_scrape, left.passes);
+    let last = MapFile {
+        file,
+        map: left.map,
+        phase,
+        no_scrape,
+    };
+    let known = known.runs.as_slice();
+    report_last(alloc, images, passing, last, known, listing, progress)
+}
+
+// Runs the two passes in large pieces, and returns their map.
+fn read_large_in_turns<'a, I: Images, D: BlockDev, O: SyncDev, P: Progress>(
+    alloc: Global,
+    images: &mut I,
+    passing: &mut Passing<D, O>,
+    file: MapPath<'_>,
+    map: Map,
+    progress: &mut P,
+) -> Result<Map, PassFault<'a>>
+    requires can { CanPass O.state passing.old }
+    requires fits { length (marks map) ≡ size passing.old.stack.config (mapped passing.old.device.0) }
+    ensures ok { IfOk result (ReadsLargeMapBy I.relations.replaces O.state file.entry map images.old images.new passing.old passing.new) }
+    ensures left { IfOk result (LeavesPassing O.state passing.old passing.new) }
+    ensures err { IfErr result (EndsLargeMapBy I.relations.replaces O.state file.entry map images.old images.new passing.old passing.new) }
+{
+    let device = passing.device;
+    let no_scrape = passing.no_scrape;
     let first = MapFile {
         file,
         map,
         phase: Phase::Skim,
         no_scrape,
     };
-    let skimmed = read_in_turns(
-        alloc,
-        images,
-        &mut passing.stack,
-        device,
-        &mut passing.out,
-        first,
-        listing,
-        progress,
-    )?;
-    let tried = retry_in_turns(alloc, images, passing, file, skimmed.map, progress)?;
-    let last = MapFile {
+    let none = &mut NoListing;
+    let stack = &mut passing.stack;
+    let out = &mut passing.out;
+    let skimmed = read_in_turns(alloc, images, stack, device, out, first, none, progress)?;
+    let second = MapFile {
         file,
-        map: tried.map,
-        phase: phase_after(tried.passes),
+        map: skimmed.map,
+        phase: Phase::Sweep,
         no_scrape,
     };
-    report_last(alloc, images, passing, last, listing, progress)
+    let none = &mut NoListing;
+    let stack = &mut passing.stack;
+    let out = &mut passing.out;
+    let swept = read_in_turns(alloc, images, stack, device, out, second, none, progress)?;
+    Ok(swept.map)
 }
 
-// Runs the last pass, and reports its lost runs with the bad sectors that it left.
+// Runs the last pass, and reports its lost runs with the bad sectors that it left, of which these runs are known.
 fn report_last<'a, I: Images, D: BlockDev, O: SyncDev, L: Listing, P: Progress>(
     alloc: Global,
     images: &mut I,
     passing: &mut Passing<D, O>,
     last: MapFile<'_>,
+    known: &[LostRun],
     listing: &mut L,
     progress: &mut P,
 ) -> Result<Counts, PassFault<'a>>
     requires can { CanPass O.state passing.old }
     requires fits { length (marks last.map) ≡ size passing.old.stack.config (mapped passing.old.device.0) }
-    ensures ok { IfOk result (ReportsLastBy I.relations.replaces O.state L.told last.entry images.old images.new passing.old passing.new listing.old listing.new) }
+    ensures ok { IfOk result (ReportsLastBy I.relations.replaces O.state L.told last.entry known.now images.old images.new passing.old passing.new listing.old listing.new) }
     ensures err { IfErr result (EndsLastBy I.relations.replaces O.state L.told last.entry images.old images.new passing.old passing.new listing.old listing.new) }
 {
     let device = passing.device;
-    let again = is_again(last.phase);
     let mut kept = KeptRuns::new(alloc);
     let made = read_in_turns(
         alloc,
@@ -154,17 +186,17 @@ fn report_last<'a, I: Images, D: BlockDev, O: SyncDev, L: Listing, P: Progress>(
     if kept.refused.is_some() {
         return Err(PassFault::NoMemory);
     }
-    tell_among_bad(listing, &made.map, again, kept.runs.as_slice());
-    Ok(counts_of(totals_of(&made.map), made.untried))
+    tell_among_bad(listing, &made.map, known, kept.runs.as_slice());
+    Ok(counts_of(totals_of(&made.map)))
 }
 
-// The counts of a map, of whose sectors so many are unscraped.
-fn counts_of(totals: Totals, untried: u64) -> Counts
-    ensures { result ≡ counts_of totals untried }
+// The counts of a map.
+fn counts_of(totals: Totals) -> Counts
+    ensures { result ≡ counts_of totals }
 {
     Counts {
         read: totals.had,
-        lost: totals.lost.saturating_sub(untried),
-        untried,
+        lost: totals.bad,
+        untried: totals.left,
     }
 }

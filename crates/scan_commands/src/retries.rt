@@ -41,7 +41,7 @@ pub(crate) fn retry_in_turns<'a, I: Images, D: BlockDev, O: SyncDev, P: Progress
     requires can { CanPass O.state passing.old }
     requires fits { length (marks map) ≡ size passing.old.stack.config (mapped passing.old.device.0) }
     ensures ok { IfOk result (RetriesMapBy I.relations.replaces O.state file.entry map images.old images.new passing.old passing.new) }
-    ensures left { IfOk result (LeavesPassing O.state passing.old passing.new) }
+    ensures left { IfOk result (λ tried. LeavesPassing O.state passing.old passing.new tried.map) }
     ensures err { IfErr result (EndsRetriesBy I.relations.replaces O.state file.entry map images.old images.new passing.old passing.new) }
 {
     let device = passing.device;
@@ -50,10 +50,11 @@ pub(crate) fn retry_in_turns<'a, I: Images, D: BlockDev, O: SyncDev, P: Progress
     let mut left = map;
     let mut passes = 0;
     'passes: while passes < retries && !is_had(&left) {
+        let phase = phase_after(no_scrape, passes);
         let next = MapFile {
             file,
             map: left,
-            phase: phase_after(passes),
+            phase,
             no_scrape,
         };
         let read = read_in_turns(

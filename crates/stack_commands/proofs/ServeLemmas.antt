@@ -10,6 +10,7 @@ use Rattle.nbd_server.specs.declared.session_end.SessionEnd.{SessionEnd}
 use Rattle.nbd_server.specs.declared.session_log.SessionLog.{SessionLog}
 use Rattle.request_queue.specs.World.{World}
 use Rattle.transfer_commands.specs.Requests.{new_world}
+use Rattle.stack_engine.specs.Pieces.{stack_keeping}
 use Rattle.stack_engine.specs.Stacks.{StackRecord}
 use Rattle.stack_meaning.specs.declared.fault.IoFault.{IoFault}
 use Rattle.stack_files.specs.BareLeaves.{StandsOnLeaves}
@@ -39,7 +40,7 @@ session-served w cache between bindings stack queue last old new outcome synced 
 
 -- a client that was served by a new queue over the stack
 pub client-served : {S D : Type 0} (w : Calls S D) (between : S) (words : DeviceWords) (stack : StackRecord) (queue last : World) (e : ExportRecord) (x : Exchange)
-    (log : SessionLog) (outcome : Result SessionEnd ServiceFault) (synced : Result Unit IoFault) → Loads (record w { new = between }) words.words words.cache stack → queue ≡ new_world stack
+    (log : SessionLog) (outcome : Result SessionEnd ServiceFault) (synced : Result Unit IoFault) → Loads (record w { new = between }) words.words words.cache stack → queue ≡ new_world (stack_keeping stack)
     → IsExport queue.stack.config e → e.name ≡ words.name → ServesNoted x (e ∷ []) queue last log outcome → GivesBack (record w { old = between }) words.words.bindings last.stack.leaves synced
     → ServesClient w words x log outcome synced
 client-served w between words stack queue last e x log outcome synced loaded is export named service back = record {
@@ -56,7 +57,7 @@ client-served w between words stack queue last e x log outcome synced loaded is 
 
 -- a client that was served each device of the stack by a new queue over it
 pub exports-served : {S D : Type 0} (w : Calls S D) (between : S) (words : StackWords) (cache : ℕ) (stack : StackRecord) (queue last : World) (names : List (List ℕ)) (es : List ExportRecord) (x : Exchange)
-    (log : SessionLog) (outcome : Result SessionEnd ServiceFault) (synced : Result Unit IoFault) → Loads (record w { new = between }) words cache stack → queue ≡ new_world stack
+    (log : SessionLog) (outcome : Result SessionEnd ServiceFault) (synced : Result Unit IoFault) → Loads (record w { new = between }) words cache stack → queue ≡ new_world (stack_keeping stack)
     → AreNames queue.stack.config.devices names → Offers queue.stack.config names es → ServesNoted x es queue last log outcome → GivesBack (record w { old = between }) words.bindings last.stack.leaves synced
     → ServesExports w words cache x log outcome synced
 exports-served w between words cache stack queue last names es x log outcome synced loaded is named offered service back = record {

@@ -38,6 +38,7 @@ use Rattle.command_line.specs.words.Verify.{verify_record}
 use Rattle.command_line.specs.words.Write.{write_record}
 use Rattle.image_files.specs.Opener.{Calls, Opener, calls}
 use Rattle.image_commands.specs.declared.tree_source.SoughtTree.{SoughtTree}
+use Rattle.partition_commands.specs.Warnings.{Notes}
 use Rattle.repair_commands.specs.declared.pair.RepairPlaces.{RepairPlaces}
 use Rattle.repair_commands.specs.ByParity.{RepairsByParity}
 use Rattle.repair_commands.specs.Commands.{IsRepairEnd, RepairsFiles}
@@ -83,11 +84,11 @@ module _ {S D T E : Type 0} (relations : Opener S D) (state : D → Device) (con
   desk_failed = new.1.0.now.failed
 
   -- by the words of a command
-  abbrev pub DoesLoad : LoadWords → Type 0
-  DoesLoad words = ListsDevices desk_calls (load_record words) desk_before desk_behind
+  abbrev pub DoesLoad : LoadWords → Notes → Type 0
+  DoesLoad words notes = ListsDevices desk_calls (load_record words) desk_before desk_behind notes
 
-  abbrev pub EndsLoad : LoadWords → CommandFault → Type 0
-  EndsLoad words = IsLoadWordsEnd desk_calls (load_record words) desk_before desk_behind desk_failed
+  abbrev pub EndsLoad : LoadWords → Notes → CommandFault → Type 0
+  EndsLoad words notes = IsLoadWordsEnd desk_calls (load_record words) desk_before desk_behind notes desk_failed
 
   abbrev pub DoesRead : ReadWords → Type 0
   DoesRead words = ReadsDevice desk_calls (read_record words) desk_before desk_behind
@@ -177,11 +178,11 @@ module _ {S D T E : Type 0} (relations : Opener S D) (state : D → Device) (con
   EndsUpdate words = IsUpdateWordsEnd desk_calls (update_record words) desk_before desk_behind desk_failed
 
   -- over a stack file
-  abbrev pub ListsFile : StackFile → ListForm → Bool → Type 0
-  ListsFile file form linux = PrintsDevices form linux desk_calls (stack_words file) desk_before desk_behind
+  abbrev pub ListsFile : StackFile → ListForm → Bool → Notes → Type 0
+  ListsFile file form linux notes = PrintsDevices form linux desk_calls (stack_words file) notes desk_before desk_behind
 
-  abbrev pub EndsListing : StackFile → ListForm → Bool → CommandFault → Type 0
-  EndsListing file form linux = IsListEnd form linux desk_calls (stack_words file) desk_failed
+  abbrev pub EndsListing : StackFile → ListForm → Bool → Notes → CommandFault → Type 0
+  EndsListing file form linux notes = IsListEnd form linux desk_calls (stack_words file) notes desk_failed
 
   abbrev pub ReadsFile : StackFile → ℕ → Sectors → Type 0
   ReadsFile file cache sectors = PrintsReply desk_calls (stack_words file) cache (read_request sectors) desk_before desk_behind

@@ -64,11 +64,11 @@ IsFecEnd Ends fault = ⊥
 
 -- ---- the devices of a stack
 
-abbrev pub ListsDevices : {S D : Type 0} → Calls S D → LoadRecord → Option (List ℕ) → Option (List ℕ) → Type 0
-ListsDevices w l old new = PrintsDevices l.form l.linux w (on l.stack l.bindings) old new
+abbrev pub ListsDevices : {S D : Type 0} → Calls S D → LoadRecord → Option (List ℕ) → Option (List ℕ) → Notes → Type 0
+ListsDevices w l old new notes = PrintsDevices l.form l.linux w (on l.stack l.bindings) notes old new
 
-abbrev pub IsLoadWordsEnd : {S D : Type 0} → Calls S D → LoadRecord → Option (List ℕ) → Option (List ℕ) → Bool → CommandFault → Type 0
-IsLoadWordsEnd w l old new failed fault = IsListEnd l.form l.linux w (on l.stack l.bindings) failed fault × IsSilent fault old new
+abbrev pub IsLoadWordsEnd : {S D : Type 0} → Calls S D → LoadRecord → Option (List ℕ) → Option (List ℕ) → Notes → Bool → CommandFault → Type 0
+IsLoadWordsEnd w l old new notes failed fault = IsListEnd l.form l.linux w (on l.stack l.bindings) notes failed fault × IsSilent fault old new
 
 -- ---- requests
 
@@ -172,13 +172,13 @@ IsPageEnd command old new failed fault = ((page_wanted command ≡ None) × ((fa
 
 -- ---- all of them
 
--- what a client is sent and what is printed meanwhile, with `--quiet` or without it
+-- what a client is sent and what is printed meanwhile, with `--quiet` or without it, and who takes the lines
 abbrev pub exchange_of : {S D T G : Type 0} → OptionTexts → Uses S D T G → Exchange
-exchange_of texts u = exchange u.old u.new texts.quiet u.notes
+exchange_of texts u = exchange u.old u.new texts.quiet u.notes u.journal
 
 -- what each prints if it succeeds; the texts are the values of `format`'s options
 abbrev pub Succeeds : {S D T G : Type 0} → OptionTexts → InvocationRecord → Uses S D T G → Type 0
-Succeeds texts (load l) u = ListsDevices u.images l u.old.output u.new.output
+Succeeds texts (load l) u = ListsDevices u.images l u.old.output u.new.output u.notes
 Succeeds texts (read r) u = ReadsDevice u.images r u.old.output u.new.output
 Succeeds texts (write t) u = WritesDevice u.images t u.old.output u.new.output
 Succeeds texts (session s) u = ServesInputLines u.images s u.old u.new
@@ -208,7 +208,7 @@ Succeeds texts version u = Appends u.old.output u.new.output version_text × (u.
 
 -- how each ends early, where the last but one says whether the writer failed
 abbrev pub FailsCommand : {S D T G : Type 0} → OptionTexts → InvocationRecord → Uses S D T G → Bool → CommandFault → Type 0
-FailsCommand texts (load l) u failed fault = IsLoadWordsEnd u.images l u.old.output u.new.output failed fault
+FailsCommand texts (load l) u failed fault = IsLoadWordsEnd u.images l u.old.output u.new.output u.notes failed fault
 FailsCommand texts (read r) u failed fault = IsReadWordsEnd u.images r u.old.output u.new.output failed fault
 FailsCommand texts (write t) u failed fault = IsWriteWordsEnd u.images t u.old.output u.new.output failed fault
 FailsCommand texts (session s) u failed fault = IsSessionWordsEnd u.images s u.old u.new failed fault
@@ -236,9 +236,10 @@ FailsCommand texts (table_fec t) u failed fault = IsFecEnd (IsTableFecEnd texts 
 FailsCommand texts (manual command) u failed fault = IsPageEnd command u.old.output u.new.output failed fault × (u.images.new ≡ u.images.old)
 FailsCommand texts version u failed fault = IsReplyUnwritten failed fault × (u.images.new ≡ u.images.old)
 
--- while it runs, a command prints nothing among the errors, but `partitions` the warnings of its table and `nbd` lines on its
--- service, of which their rows speak
+-- while it runs, a command prints nothing among the errors, but `load` that no signature is checked, `partitions` the warnings of
+-- its table and `nbd` lines on its service, of which their rows speak
 abbrev pub AreCommandNotes : InvocationRecord → Notes → Type 0
+AreCommandNotes (load l) notes = Unit {0}
 AreCommandNotes (partitions p) notes = Unit {0}
 AreCommandNotes (nbd n) notes = Unit {0}
 AreCommandNotes (exports e) notes = Unit {0}

@@ -14,10 +14,11 @@ use Rattle.stack_commands.specs.declared.fault.CommandFault.{CommandFault}
 use Rattle.stack_commands.specs.Commands.{IsCommandDone, IsRunEnd, object_asked}
 use Rattle.stack_commands.specs.Invocations.{AreCommandNotes, FailsCommand, Succeeds}
 use Rattle.stack_commands.specs.Resolutions.{FailsToFindBound, Resolves}
+use Rattle.stack_commands.specs.ServiceLog.{JournalRecord}
 use Rattle.stack_commands.specs.Uses.{Uses, uses}
 
 module _ {S D G F R T : Type 0} (relations : Opener S D) (state : D → Device) (remaining : R → Option (List ℕ)) (contents : T → Option (List ℕ)) (images images' : S) (drawn : Drawing G F)
-    (reader reader' : CountedRecord R) (writer writer' : CountedRecord T) (notes : Notes) where
+    (reader reader' : CountedRecord R) (writer writer' : CountedRecord T) (notes : Notes) (journal : JournalRecord) where
   abbrev all_used : Uses S D G F
   all_used = uses
       (calls relations state images images')
@@ -25,6 +26,7 @@ module _ {S D G F R T : Type 0} (relations : Opener S D) (state : D → Device) 
       (streams (remaining reader.inner) (contents writer.inner))
       (streams (remaining reader'.inner) (contents writer'.inner))
       notes
+      journal
 
   -- by the words after the program's name
   abbrev pub DoesWords : List (List ℕ) → Type 0

@@ -9,6 +9,7 @@ use Rattle.nbd_protocol.specs.declared.fault.ServiceFault.TheVariants as service
 use Rattle.nbd_server.specs.declared.session_end.SessionEnd.{SessionEnd}
 use Rattle.nbd_server.specs.declared.session_log.SessionLog.{SessionLog}
 use Rattle.request_queue.specs.World.{World}
+use Rattle.stack_engine.specs.Pieces.{stack_keeping}
 use Rattle.stack_engine.specs.Stacks.{StackRecord}
 use Rattle.stack_meaning.specs.declared.fault.IoFault.{IoFault}
 use Rattle.stack_files.specs.OpenStacks.{StackWords}
@@ -27,7 +28,7 @@ pub record AreOffered (stack : StackRecord) (exports : List ExportRecord) : Type
   pub named : AreNames stack.config.devices names
   pub offered : Offers stack.config names exports
 
--- The service of a client, over each device of the stack, and the log of its requests. The images were closed with what was
+-- The service of a client, over each device of the stack, which keeps a data block too, and the log of its requests. The images were closed with what was
 -- written to them, synced or not.
 pub record ServesExports {S D : Type 0} (w : Calls S D) (words : StackWords) (cache : ℕ) (x : Exchange) (log : SessionLog) (outcome : Result SessionEnd ServiceFault) (synced : Result Unit IoFault) : Type 0 where
   pub stack : StackRecord
@@ -36,7 +37,7 @@ pub record ServesExports {S D : Type 0} (w : Calls S D) (words : StackWords) (ca
   pub between : S
   pub loaded : Loads (record w { new = between }) words cache stack
   pub offered : AreOffered stack exports
-  pub served : ServesNoted x exports (new_world stack) last log outcome
+  pub served : ServesNoted x exports (new_world (stack_keeping stack)) last log outcome
   pub back : GivesBack (record w { old = between }) words.bindings last.stack.leaves synced
 
 -- the service itself ended early, as by a failure of the writer

@@ -24,7 +24,7 @@ use Rattle.stack_commands.specs.declared.client.Client.{Client}
 use Rattle.stack_commands.specs.declared.fault.CommandFault.{CommandFault}
 use Rattle.stack_commands.specs.Invocations.{IsExportsWordsEnd, IsNbdWordsEnd, IsSessionWordsEnd, IsStoreCommandEnd, ServesDevices, ServesInputLines, ServesNamedDevice, StoresSectors}
 use Rattle.stack_commands.specs.ManyExports.{IsExportsEnd, ServesExports}
-use Rattle.stack_commands.specs.ServiceLog.{Exchange, exchange}
+use Rattle.stack_commands.specs.ServiceLog.{Exchange, JournalRecord, exchange}
 use Rattle.stack_commands.specs.StackCommands.{IsClientEnd, IsServeEnd, ServesClient, ServesSession, ServesWell, device_on, on}
 
 abbrev served_device : ServedDevice → List Binding → DeviceWords
@@ -64,21 +64,22 @@ module _ {S D R T : Type 0} (relations : Opener S D) (state : D → Device) (rem
 -- ---- with a client, lent by who runs the command
 
 -- what was exchanged with a client, by what its references held before the call and hold after it
-abbrev pub exchanged : {R T E J X : Type 0} → (R → Option (List ℕ)) → (T → Option (List ℕ)) → (E → Option (List ℕ)) → Client R T E J
+abbrev pub exchanged : {R T E J X : Type 0} → (R → Option (List ℕ)) → (T → Option (List ℕ)) → (E → Option (List ℕ)) → (J → JournalRecord) → Client R T E J
     → MutBor (CountedRecord R) × (MutBor (CountedRecord T) × (MutBor (CountedRecord E) × X)) → Exchange
-exchanged remaining contents printed old new = exchange
+exchanged remaining contents printed journal old new = exchange
     (streams (remaining old.reader.now.inner) (contents old.writer.now.inner))
     (streams (remaining new.0.now.inner) (contents new.1.0.now.inner))
     old.quiet
     (notes_of printed old.errors.now new.1.1.0.now)
+    (journal old.journal.now)
 
-module _ {S D R T E J X : Type 0} (relations : Opener S D) (state : D → Device) (remaining : R → Option (List ℕ)) (contents : T → Option (List ℕ)) (printed : E → Option (List ℕ))
+module _ {S D R T E J X : Type 0} (relations : Opener S D) (state : D → Device) (remaining : R → Option (List ℕ)) (contents : T → Option (List ℕ)) (printed : E → Option (List ℕ)) (journal : J → JournalRecord)
     (images images' : S) (old : Client R T E J) (new : MutBor (CountedRecord R) × (MutBor (CountedRecord T) × (MutBor (CountedRecord E) × X))) where
   abbrev client_calls : Calls S D
   client_calls = calls relations state images images'
 
   abbrev client_exchange : Exchange
-  client_exchange = exchanged remaining contents printed old new
+  client_exchange = exchanged remaining contents printed journal old new
 
   abbrev client_failed : Bool
   client_failed = new.1.0.now.failed

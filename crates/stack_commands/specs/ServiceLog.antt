@@ -1,5 +1,5 @@
 -- What `nbd` prints among the errors while it serves a client.
-use Rattle.std.specs.Prelude.{◌≡◌, ℕ, ◌-◌, ◌==◌, Bool, true, false, List, [], ◌∷◌, ◌++◌, codes, decimal, flat_map, Option, Some, None, Result, Ok, Err, if◌then◌else◌}
+use Rattle.std.specs.Prelude.{◌≡◌, ℕ, ◌-◌, ◌==◌, All, Bool, true, false, List, [], ◌∷◌, ◌++◌, codes, decimal, flat_map, Option, Some, None, Result, Ok, Err, if◌then◌else◌}
 use Rattle.hex.specs.Hex.{encode_lower}
 use Rattle.dm_table.specs.declared.table.Line.{Line}
 use Rattle.dm_table.specs.declared.table.Target.{Target}
@@ -12,11 +12,13 @@ use Rattle.nbd_protocol.specs.declared.fault.ServiceFault.TheVariants as service
 use Rattle.nbd_server.specs.FaultLines.{report_text}
 use Rattle.nbd_server.specs.FaultLog.{MetFault, faults_in}
 use Rattle.nbd_server.specs.Service.{IsService}
-use Rattle.nbd_server.specs.declared.first_faults.FirstFault.{FirstFault}
+use Rattle.nbd_server.specs.declared.known_faults.ExportFault.{ExportFault}
 use Rattle.nbd_server.specs.declared.session_end.SessionEnd.{SessionEnd}
 use Rattle.nbd_server.specs.declared.session_end.SessionEnd.TheVariants as session
 use Rattle.nbd_server.specs.declared.session_log.SessionLog.{SessionLog}
 use Rattle.nbd_server.specs.declared.tally.Tally.{Tally}
+use Rattle.linux_rules.specs.Signatures.{has_signature}
+use Rattle.partition_commands.specs.Unchecked.{unchecked_text}
 use Rattle.partition_commands.specs.Warnings.{IsNoted, Notes}
 use Rattle.program_io.specs.Streams.{Streams}
 use Rattle.request_queue.specs.World.{World}
@@ -66,8 +68,12 @@ unfoldable pub export_line : Configuration → ExportRecord → List ℕ
 export_line c e = codes "dmstack: export " ++ named_facts c e
 
 -- a line for each export
-abbrev pub start_text : Configuration → List ExportRecord → List ℕ
-start_text c exports = flat_map (export_line c) exports
+abbrev pub exports_text : Configuration → List ExportRecord → List ℕ
+exports_text c exports = flat_map (export_line c) exports
+
+-- before them, that no signature is checked
+unfoldable pub start_text : Configuration → List ExportRecord → List ℕ
+start_text c exports = unchecked_text c ++ exports_text c exports
 
 -- why a session ended
 abbrev pub end_reason : Result SessionEnd ServiceFault → List ℕ
@@ -90,9 +96,9 @@ tally_text t =
     ++ (codes " requests of "
     ++ (decimal t.bytes ++ (codes " bytes, " ++ (decimal (t.faults - t.full) ++ (codes " with an input/output error, " ++ (decimal t.full ++ codes " with NoSpace")))))))
 
--- how many blocks were restored; nothing if none was
+-- how often blocks were restored; nothing if none was
 unfoldable pub restored_text : ℕ → List ℕ
-restored_text count = if count == 0 then codes "" else codes ", restored " ++ (decimal count ++ codes " blocks")
+restored_text count = if count == 0 then codes "" else codes ", restored blocks " ++ (decimal count ++ codes " times")
 
 -- and why the session ended
 unfoldable pub reason_text : List ℕ → List ℕ
@@ -106,26 +112,47 @@ served_line t restored reason = tally_text t ++ ending_text restored reason
 
 -- ---- what was printed
 
--- a text on the faults was printed among the errors, by when they were met, or the errors failed
-abbrev pub IsMetNoted : (List MetFault → List ℕ) → Notes → List FirstFault → Type 0
-IsMetNoted text notes faults = (met : List MetFault) × (faults ≡ faults_in met) × IsNoted notes (text met)
+-- who takes the lines: whether these may begin with their priority, and the seconds that the clock may show by which those on faults
+-- are limited
+pub record JournalRecord : Type 1 where
+  pub priorities : Bool
+  pub shows : ℕ → Type 0
 
--- nothing with `--quiet`
-abbrev pub IsNotedUnless : Bool → (List MetFault → List ℕ) → Notes → List FirstFault → Type 0
-IsNotedUnless true text notes faults = notes.new ≡ notes.old
-IsNotedUnless false text notes faults = IsMetNoted text notes faults
+abbrev pub journal_record : {J : Type 0} → (J → Bool) → (J → ℕ → Type 0) → J → JournalRecord
+journal_record priorities shows journal = record { priorities = priorities journal; shows = shows journal }
 
--- what is read of a client, written to it and printed among the errors while it is served, and whether `--quiet` is given
-pub record Exchange : Type 0 where
+-- The faults were met when the clock showed these seconds, and a text on them was printed among the errors, or the errors failed.
+pub record IsMetNoted (shows : ℕ → Type 0) (text : List MetFault → List ℕ) (notes : Notes) (faults : List ExportFault) : Type 0 where
+  pub met : List MetFault
+  pub faults_are : faults ≡ faults_in met
+  pub shown : All (λ (m : MetFault). shows m.seconds) met
+  pub noted : IsNoted notes (text met)
+
+-- that no signature is checked was printed, if a line names the key of one, and otherwise nothing
+abbrev pub IsWarnedIf : Bool → List ℕ → Notes → Type 0
+IsWarnedIf true text notes = IsNoted notes text
+IsWarnedIf false text notes = notes.new ≡ notes.old
+
+abbrev pub IsWarned : Configuration → Notes → Type 0
+IsWarned c notes = IsWarnedIf (has_signature c) (unchecked_text c) notes
+
+-- with `--quiet` only that is printed
+abbrev pub IsNotedUnless : Bool → Configuration → (ℕ → Type 0) → (List MetFault → List ℕ) → Notes → List ExportFault → Type 0
+IsNotedUnless true c shows text notes faults = IsWarned c notes
+IsNotedUnless false c shows text notes faults = IsMetNoted shows text notes faults
+
+-- what is read of a client, written to it and printed among the errors while it is served, whether `--quiet` is given, and the journal
+pub record Exchange : Type 1 where
   pub old : Streams
   pub new : Streams
   pub quiet : Bool
   pub notes : Notes
+  pub journal : JournalRecord
 
-abbrev pub exchange : Streams → Streams → Bool → Notes → Exchange
-exchange old new quiet notes = record { old = old; new = new; quiet = quiet; notes = notes }
+abbrev pub exchange : Streams → Streams → Bool → Notes → JournalRecord → Exchange
+exchange old new quiet notes journal = record { old = old; new = new; quiet = quiet; notes = notes; journal = journal }
 
--- what is printed after a session: its tally, with the number of blocks that were restored
+-- what is printed after a session: its tally, with the number of times that a block was restored
 abbrev pub end_text : Tally → ℕ → Result SessionEnd ServiceFault → List ℕ
 end_text t restored outcome = served_line t restored (end_reason outcome)
 
@@ -134,10 +161,9 @@ abbrev pub session_text : Bool → List ExportRecord → World → World → Ses
 session_text priorities exports begin last log outcome met =
     start_text begin.stack.config exports ++ (report_text priorities exports met ++ end_text log.tally (last.stack.restored - begin.stack.restored) outcome)
 
--- a client was served these exports, and this was printed of its session; lines on faults have priorities or not
+-- a client was served these exports, and this was printed of its session, by the clock and the priorities of the journal
 pub record ServesNoted (x : Exchange) (exports : List ExportRecord) (begin last : World) (log : SessionLog) (outcome : Result SessionEnd ServiceFault) : Type 0 where
-  pub priorities : Bool
-  pub service : IsService exports begin last x.old x.new log (IsNotedUnless x.quiet (session_text priorities exports begin last log outcome) x.notes) outcome
+  pub service : IsService exports begin last x.old x.new log (IsNotedUnless x.quiet begin.stack.config x.journal.shows (session_text x.journal.priorities exports begin last log outcome) x.notes) outcome
 
 -- nothing was read, written or printed
 abbrev pub IsUnbegun : Exchange → Type 0

@@ -5,6 +5,9 @@ use Rattle.image_files.specs.Opener.{Calls}
 use Rattle.stack_rules.specs.Records.{Configuration}
 use Rattle.linux_rules.specs.declared.refusal.LinuxFault.{LinuxFault}
 use Rattle.linux_rules.specs.Rules.{IsChecked, linux_refusal}
+use Rattle.partition_commands.specs.Unchecked.{unchecked_text}
+use Rattle.partition_commands.specs.Warnings.{IsNoted, Notes}
+use Rattle.stack_engine.specs.Pieces.{stack_keeping}
 use Rattle.stack_engine.specs.Stacks.{StackRecord}
 use Rattle.stack_meaning.specs.declared.fault.IoFault.{IoFault}
 use Rattle.nbd_protocol.specs.declared.fault.ServiceFault.{ServiceFault}
@@ -80,22 +83,25 @@ abbrev pub IsObjectUnmade : ListForm → CommandFault → Type 0
 IsObjectUnmade Object fault = fault ≡ NoMemory
 IsObjectUnmade form fault = ⊥
 
--- a line for each mapped device, a tree or an object of them
-pub record PrintsDevices {S D : Type 0} (form : ListForm) (linux : Bool) (w : Calls S D) (words : StackWords) (old new : Option (List ℕ)) : Type 0 where
+-- a line for each mapped device, a tree or an object of them; among the errors, that no signature is checked
+pub record PrintsDevices {S D : Type 0} (form : ListForm) (linux : Bool) (w : Calls S D) (words : StackWords) (notes : Notes) (old new : Option (List ℕ)) : Type 0 where
   pub config : Configuration
   pub made : Configures w words config
+  pub noted : IsNoted notes (unchecked_text config)
   pub taken : IsTaken linux config
   pub printed : Appends old new (load_text form config words.bindings)
 
 -- the devices of the one that is made aren't printed
-pub record FailsToListDevices {S D : Type 0} (form : ListForm) (linux : Bool) (w : Calls S D) (words : StackWords) (failed : Bool) (fault : CommandFault) : Type 0 where
+pub record FailsToListDevices {S D : Type 0} (form : ListForm) (linux : Bool) (w : Calls S D) (words : StackWords) (notes : Notes) (failed : Bool) (fault : CommandFault) : Type 0 where
   pub config : Configuration
   pub made : Configures w words config
+  pub noted : IsNoted notes (unchecked_text config)
   pub why : (IsTaken linux config × IsObjectUnmade form fault) ⊎ (IsLinuxEnd linux config fault ⊎ IsReplyUnwritten failed fault)
 
--- that, or the text makes none
-abbrev pub IsListEnd : {S D : Type 0} → ListForm → Bool → Calls S D → StackWords → Bool → CommandFault → Type 0
-IsListEnd form linux w words failed fault = IsStackEnd (FailsToLoadFile w words) fault ⊎ FailsToListDevices form linux w words failed fault
+-- that, or the text makes none, and nothing is printed among the errors
+abbrev pub IsListEnd : {S D : Type 0} → ListForm → Bool → Calls S D → StackWords → Notes → Bool → CommandFault → Type 0
+IsListEnd form linux w words notes failed fault =
+    (IsStackEnd (FailsToLoadFile w words) fault × (notes.new ≡ notes.old)) ⊎ FailsToListDevices form linux w words notes failed fault
 
 -- ---- `read`
 
@@ -148,8 +154,8 @@ IsServeEnd w cache bindings old new failed fault = ⊥
 
 -- ---- `nbd`
 
--- The service of a client, over the device of that name in the stack, and the log of its requests. The images were then closed,
--- synced or not.
+-- The service of a client, over the device of that name in the stack, which keeps a data block too, and the log of its requests. The
+-- images were then closed, synced or not.
 pub record ServesClient {S D : Type 0} (w : Calls S D) (words : DeviceWords) (x : Exchange) (log : SessionLog) (outcome : Result SessionEnd ServiceFault) (synced : Result Unit IoFault) : Type 0 where
   pub stack : StackRecord
   pub export : ExportRecord
@@ -158,7 +164,7 @@ pub record ServesClient {S D : Type 0} (w : Calls S D) (words : DeviceWords) (x 
   pub loaded : Loads (record w { new = between }) words.words words.cache stack
   pub is_export : IsExport stack.config export
   pub named : export.name ≡ words.name
-  pub served : ServesNoted x (export ∷ []) (new_world stack) last log outcome
+  pub served : ServesNoted x (export ∷ []) (new_world (stack_keeping stack)) last log outcome
   pub back : GivesBack (record w { old = between }) words.words.bindings last.stack.leaves synced
 
 -- all was served and synced, and no request ended with a fault

@@ -3,6 +3,7 @@ use Rattle.std.specs.Prelude.{◌≡◌, ℕ, List, Some, Err}
 use Rattle.command_line.specs.Misuses.{misuse_record}
 use Rattle.command_parser.specs.CommandLines.{line_said}
 use Rattle.command_parser.specs.Memory.{IsLineOutOfMemory}
+use Rattle.stack_commands.specs.ServiceLog.{JournalRecord}
 use Rattle.stack_commands.specs.declared.fault.CommandFault.{CommandFault}
 use Rattle.stack_commands.specs.declared.fault.CommandFault.TheVariants.{NoMemory, Recovering, Request, Stack, Stream, Trees, Usage, Verity}
 use Rattle.program_io.specs.Streams.{Streams}
@@ -52,13 +53,15 @@ abbrev pub IsTreesEnd : (TreeFault → Type 0) → CommandFault → Type 0
 IsTreesEnd Ends (Trees fault) = Ends fault
 IsTreesEnd Ends fault = ⊥
 
--- what a command opens, draws from, reads and writes, and what it prints among the errors, before and after it
+-- What a command opens, draws from, reads and writes, and what it prints among the errors, before and after it; and who takes the
+-- lines of `nbd`.
 pub record Uses (S D T G : Type 0) : Type 1 where
   pub images : Calls S D
   pub drawing : Drawing T G
   pub old : Streams
   pub new : Streams
   pub notes : Notes
+  pub journal : JournalRecord
 
-abbrev pub uses : {S D T G : Type 0} → Calls S D → Drawing T G → Streams → Streams → Notes → Uses S D T G
-uses images drawing old new notes = record { images = images; drawing = drawing; old = old; new = new; notes = notes }
+abbrev pub uses : {S D T G : Type 0} → Calls S D → Drawing T G → Streams → Streams → Notes → JournalRecord → Uses S D T G
+uses images drawing old new notes journal = record { images = images; drawing = drawing; old = old; new = new; notes = notes; journal = journal }

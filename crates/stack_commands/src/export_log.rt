@@ -1,33 +1,47 @@
-//! The lines of `nbd` on its exports, printed among the errors. A failure of the errors' writer stays known and ends nothing.
+//! The lines of `nbd` ahead of its service, printed among the errors. A failure of the errors' writer stays known and ends nothing.
 ghost use Rattle.std.specs.Prelude.{◌≡◌, ◌≤◌, codes, length};
 ghost use Rattle.hex.specs.Hex.{encode_lower};
 ghost use Rattle.nbd_protocol.specs.Exports.{export_record, export_records};
 ghost use Rattle.nbd_server.specs.FaultLines.{IsPrinted};
+ghost use Rattle.partition_commands.specs.Warnings.{notes_of};
 ghost use Rattle.program_io.specs.Counted.{Writes};
 ghost use Rattle.stack_rules.specs.Names.{lines_of};
-ghost use Rattle.stack_commands.specs.ServiceLog.{export_facts, export_line, export_words, named_facts, only_root, rights_text, root_end, root_facts, root_words, start_text, target_root};
+ghost use Rattle.stack_commands.specs.ServiceLog.{IsWarned, export_facts, export_line, export_words, exports_text, named_facts, only_root, rights_text, root_end, root_facts, root_words, start_text, target_root};
 
 use dm_table::{Line, Target};
+use linux_rules::has_signature;
 use nbd_protocol::Export;
+use partition_commands::note_unchecked;
 use program_io::{Counted, WriteFault};
 use stack_config::{Config, DevId};
 use std::io::Write;
 use tree_shape::Digest;
 
-/// Prints a line for each export.
+/// Prints that no signature is checked, if a line names the key of one, and a line for each export.
 pub(crate) fn note_start<E: Write>(errors: &mut Counted<E>, config: &Config, exports: &[Export<'_>])
     ensures { IsPrinted E.contents errors.old errors.new (start_text config.now (export_records exports.now)) }
 {
-    let _said = say_start(errors, config, exports);
+    note_unchecked(errors, config);
+    let _said = say_exports(errors, config, exports);
+}
+
+/// Prints that no signature is checked, if a line names the key of one, and otherwise nothing.
+pub(crate) fn note_unsigned<E: Write>(errors: &mut Counted<E>, config: &Config)
+    ensures { IsWarned config.now (notes_of E.contents errors.old errors.new) }
+{
+    if !has_signature(config) {
+        return;
+    }
+    note_unchecked(errors, config);
 }
 
 // A line for each export.
-fn say_start<W: Write>(
+fn say_exports<W: Write>(
     writer: &mut Counted<W>,
     config: &Config,
     exports: &[Export<'_>],
 ) -> Result<(), WriteFault>
-    ensures { Writes W.contents writer.old writer.new (start_text config.now (export_records exports.now)) result }
+    ensures { Writes W.contents writer.old writer.new (exports_text config.now (export_records exports.now)) result }
 {
     for export in exports {
         say_export(writer, config, export)?;

@@ -4,6 +4,7 @@ ghost use Rattle.image_commands.specs.Drawing.{drawing};
 ghost use Rattle.stack_commands.specs.Contexts.{EndsPage, ShowsPage};
 ghost use Rattle.partition_commands.specs.Warnings.{notes_of};
 ghost use Rattle.stack_commands.specs.Lines.{DoesLine, EndsLine, NotesLine};
+ghost use Rattle.stack_commands.specs.ServiceLog.{journal_record};
 
 use crate::client::Client;
 use crate::context::Context;
@@ -60,8 +61,8 @@ pub fn invoke<
 ) -> Result<(), CommandFault<'a>>
     requires reader { reader.old.failed ≡ false }
     requires writer { writer.old.failed ≡ false }
-    ensures ok { OnOk result (DoesLine I.relations I.Dev.state S.remaining W.contents images.old images.new (drawing G.gives G.Generator.stream generators.old generators.new) reader.old reader.new writer.old writer.new (notes_of E.contents errors.old errors.new) line.entry) }
-    ensures err { IfErr result (EndsLine I.relations I.Dev.state S.remaining W.contents images.old images.new (drawing G.gives G.Generator.stream generators.old generators.new) reader.old reader.new writer.old writer.new (notes_of E.contents errors.old errors.new) line.entry) }
+    ensures ok { OnOk result (DoesLine I.relations I.Dev.state S.remaining W.contents images.old images.new (drawing G.gives G.Generator.stream generators.old generators.new) reader.old reader.new writer.old writer.new (notes_of E.contents errors.old errors.new) (journal_record G.priorities G.shows generators.old) line.entry) }
+    ensures err { IfErr result (EndsLine I.relations I.Dev.state S.remaining W.contents images.old images.new (drawing G.gives G.Generator.stream generators.old generators.new) reader.old reader.new writer.old writer.new (notes_of E.contents errors.old errors.new) (journal_record G.priorities G.shows generators.old) line.entry) }
     ensures noted { NotesLine line.entry (notes_of E.contents errors.old errors.new) }
 {
     let CommandLine {
@@ -69,7 +70,7 @@ pub fn invoke<
         options,
     } = line;
     match invocation {
-        Invocation::Load(words) => invoke_load(alloc, Context { images, writer }, words),
+        Invocation::Load(words) => { invoke_load(alloc, Context { images, writer }, words, errors) }
         Invocation::Read(words) => invoke_read(alloc, Context { images, writer }, words),
         Invocation::Write(words) => invoke_write(alloc, Context { images, writer }, words),
         Invocation::Session(words) => invoke_session(alloc, images, words, reader, writer),

@@ -1,6 +1,7 @@
 //! The command `load`: checks a stack, and says what its devices are.
 ghost use Rattle.std.specs.Prelude.{◌⊎◌, map, IfErr, OnOk};
 ghost use Rattle.command_line.specs.Bindings.{binding_record};
+ghost use Rattle.partition_commands.specs.Warnings.{notes_of};
 ghost use Rattle.stack_commands.specs.Endings.{IsSilent, IsReplyUnwritten};
 ghost use Rattle.stack_commands.specs.Contexts.{DoesLoad, EndsListing, EndsLoad, IsSilentOn, ListsFile, PrintsConfiguration};
 ghost use Rattle.stack_commands.specs.StackCommands.{IsCheckedIf, IsObjectUnmade};
@@ -11,6 +12,7 @@ use crate::words::stack_file;
 use command_line::{Binding, ListForm, LoadWords};
 use image_files::Images;
 use linux_rules::{LinuxFault, check_linux};
+use partition_commands::note_unchecked;
 use program_io::Counted;
 use scan_commands::{devices_line, say_devices, say_tree};
 use stack_config::Config;
@@ -19,7 +21,8 @@ use std::alloc::Global;
 use std::io::Write;
 
 /// `load [--json | --tree] [--linux] STACK BINDING...`: prints the devices of a stack file over the bindings, as a JSON object, a
-/// tree or a line each; with `--linux` only if Linux would load them too, and read and write the same.
+/// tree or a line each; with `--linux` only if Linux would load them too, and read and write the same. A warning among the errors
+/// says that no signature is checked, if a line names the key of one.
 ///
 /// # Errors
 ///
@@ -27,13 +30,14 @@ use std::io::Write;
 /// - `Linux` with the first refusal of Linux.
 /// - `NoMemory` if an allocation was refused.
 /// - `Session` if a line can't be written.
-pub fn invoke_load<'a, I: Images, W: Write>(
+pub fn invoke_load<'a, I: Images, W: Write, E: Write>(
     alloc: Global,
     context: Context<'_, I, W>,
     words: LoadWords<'a>,
+    errors: &mut Counted<E>,
 ) -> Result<(), CommandFault<'a>>
-    ensures ok { OnOk result (DoesLoad I.relations I.Dev.state W.contents context.entry context.exit words.entry) }
-    ensures err { IfErr result (EndsLoad I.relations I.Dev.state W.contents context.entry context.exit words.entry) }
+    ensures ok { OnOk result (DoesLoad I.relations I.Dev.state W.contents context.entry context.exit words.entry (notes_of E.contents errors.old errors.new)) }
+    ensures err { IfErr result (EndsLoad I.relations I.Dev.state W.contents context.entry context.exit words.entry (notes_of E.contents errors.old errors.new)) }
 {
     let LoadWords {
         stack,
@@ -42,25 +46,27 @@ pub fn invoke_load<'a, I: Images, W: Write>(
         linux,
     } = words;
     let file = stack_file(stack, &bindings);
-    load_stack_file(alloc, context, file, form, linux)
+    load_stack_file(alloc, context, file, form, linux, errors)
 }
 
 // The devices of a stack file.
 #[tactic(auto, using(crate::proofs::EndingLemmas::quiet))]
-fn load_stack_file<'a, I: Images, W: Write>(
+fn load_stack_file<'a, I: Images, W: Write, E: Write>(
     alloc: Global,
     context: Context<'_, I, W>,
     file: StackFile<'a, '_>,
     form: ListForm,
     linux: bool,
+    errors: &mut Counted<E>,
 ) -> Result<(), CommandFault<'a>>
-    ensures ok { OnOk result (ListsFile I.relations I.Dev.state W.contents context.entry context.exit file.entry form linux) }
-    ensures err { IfErr result (EndsListing I.relations I.Dev.state W.contents context.entry context.exit file.entry form linux) }
+    ensures ok { OnOk result (ListsFile I.relations I.Dev.state W.contents context.entry context.exit file.entry form linux (notes_of E.contents errors.old errors.new)) }
+    ensures err { IfErr result (EndsListing I.relations I.Dev.state W.contents context.entry context.exit file.entry form linux (notes_of E.contents errors.old errors.new)) }
     ensures quiet { IfErr result (IsSilentOn W.contents context.entry context.exit) }
 {
     let Context { images, writer } = context;
     let bindings = file.bindings;
     let config = open_configuration(alloc, images, file)?;
+    note_unchecked(errors, &config);
     check_rules(&config, linux)?;
     say_configuration(alloc, &config, bindings, form, writer)
 }

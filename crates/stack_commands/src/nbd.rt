@@ -3,10 +3,10 @@ ghost use Rattle.std.specs.Prelude.{OnOk, IfErr};
 ghost use Rattle.nbd_protocol.specs.Exports.{AreExports, export_records};
 ghost use Rattle.nbd_protocol.specs.Streaming.{HasWritten, result_fault};
 ghost use Rattle.stack_commands.specs.Served.{DoesExports, DoesNbd, EndsAll, EndsClient, EndsExports, EndsNbd, ServesDevice, ServesEach, exchanged};
-ghost use Rattle.stack_commands.specs.ServiceLog.{ServesNoted};
+ghost use Rattle.stack_commands.specs.ServiceLog.{ServesNoted, journal_record};
 
 use crate::client::Client;
-use crate::export_log::note_start;
+use crate::export_log::{note_start, note_unsigned};
 use crate::fault::CommandFault;
 use crate::service_log::{note_end, restored_since};
 use block_device::{BlockDev, SyncDev};
@@ -34,8 +34,8 @@ pub fn invoke_nbd<'a, I: Images, R: Read, W: Write, E: Write, J: Journal>(
     words: NbdWords<'a>,
     client: Client<'_, R, W, E, J>,
 ) -> Result<(), CommandFault<'a>>
-    ensures ok { OnOk result (DoesNbd I.relations I.Dev.state R.remaining W.contents E.contents images.old images.new client.entry client.exit words.entry) }
-    ensures err { IfErr result (EndsNbd I.relations I.Dev.state R.remaining W.contents E.contents images.old images.new client.entry client.exit words.entry) }
+    ensures ok { OnOk result (DoesNbd I.relations I.Dev.state R.remaining W.contents E.contents (journal_record J.priorities J.shows) images.old images.new client.entry client.exit words.entry) }
+    ensures err { IfErr result (EndsNbd I.relations I.Dev.state R.remaining W.contents E.contents (journal_record J.priorities J.shows) images.old images.new client.entry client.exit words.entry) }
 {
     let NbdWords { device, bindings } = words;
     serve_client(alloc, images, device, bindings.as_slice(), client)
@@ -56,8 +56,8 @@ pub fn invoke_exports<'a, I: Images, R: Read, W: Write, E: Write, J: Journal>(
     words: ExportsWords<'a>,
     client: Client<'_, R, W, E, J>,
 ) -> Result<(), CommandFault<'a>>
-    ensures ok { OnOk result (DoesExports I.relations I.Dev.state R.remaining W.contents E.contents images.old images.new client.entry client.exit words.entry) }
-    ensures err { IfErr result (EndsExports I.relations I.Dev.state R.remaining W.contents E.contents images.old images.new client.entry client.exit words.entry) }
+    ensures ok { OnOk result (DoesExports I.relations I.Dev.state R.remaining W.contents E.contents (journal_record J.priorities J.shows) images.old images.new client.entry client.exit words.entry) }
+    ensures err { IfErr result (EndsExports I.relations I.Dev.state R.remaining W.contents E.contents (journal_record J.priorities J.shows) images.old images.new client.entry client.exit words.entry) }
 {
     let ExportsWords {
         cache,
@@ -75,14 +75,15 @@ fn serve_client<'a, I: Images, R: Read, W: Write, E: Write, J: Journal>(
     bindings: &[Binding<'a>],
     client: Client<'_, R, W, E, J>,
 ) -> Result<(), CommandFault<'a>>
-    ensures ok { OnOk result (ServesDevice I.relations I.Dev.state R.remaining W.contents E.contents images.old images.new client.entry client.exit device.entry bindings.now) }
-    ensures err { IfErr result (EndsClient I.relations I.Dev.state R.remaining W.contents E.contents images.old images.new client.entry client.exit device.entry bindings.now) }
+    ensures ok { OnOk result (ServesDevice I.relations I.Dev.state R.remaining W.contents E.contents (journal_record J.priorities J.shows) images.old images.new client.entry client.exit device.entry bindings.now) }
+    ensures err { IfErr result (EndsClient I.relations I.Dev.state R.remaining W.contents E.contents (journal_record J.priorities J.shows) images.old images.new client.entry client.exit device.entry bindings.now) }
 {
     let file = StackFile {
         path: device.stack,
         bindings,
     };
-    let stack = open_loaded(alloc, images, file, device.cache)?;
+    let mut stack = open_loaded(alloc, images, file, device.cache)?;
+    stack.keep_data();
     let mut queue = Queue::new(alloc, stack);
     let Some(export) = Export::of(queue.stack().config(), device.name.as_bytes()) else {
         return Err(CommandFault::Stack(StackFault::NoSuchDevice));
@@ -108,14 +109,15 @@ fn serve_exports<'a, I: Images, R: Read, W: Write, E: Write, J: Journal>(
     bindings: &[Binding<'a>],
     client: Client<'_, R, W, E, J>,
 ) -> Result<(), CommandFault<'a>>
-    ensures ok { OnOk result (ServesEach I.relations I.Dev.state R.remaining W.contents E.contents images.old images.new client.entry client.exit cache stack.now bindings.now) }
-    ensures err { IfErr result (EndsAll I.relations I.Dev.state R.remaining W.contents E.contents images.old images.new client.entry client.exit cache stack.now bindings.now) }
+    ensures ok { OnOk result (ServesEach I.relations I.Dev.state R.remaining W.contents E.contents (journal_record J.priorities J.shows) images.old images.new client.entry client.exit cache stack.now bindings.now) }
+    ensures err { IfErr result (EndsAll I.relations I.Dev.state R.remaining W.contents E.contents (journal_record J.priorities J.shows) images.old images.new client.entry client.exit cache stack.now bindings.now) }
 {
     let file = StackFile {
         path: stack,
         bindings,
     };
-    let stack = open_loaded(alloc, images, file, cache)?;
+    let mut stack = open_loaded(alloc, images, file, cache)?;
+    stack.keep_data();
     let mut queue = Queue::new(alloc, stack);
     let config = queue.stack().config();
     let names = names_of(alloc, config)?;
@@ -135,7 +137,7 @@ fn serve_exports<'a, I: Images, R: Read, W: Write, E: Write, J: Journal>(
 }
 
 // Serves the exports. Among the errors a line for each of them is printed before, those of a fault after the reply to its request is
-// flushed, and that on the tally after.
+// flushed, and that on the tally after. If `quiet` is set, none of these is, but the warning on signatures.
 fn serve_noted<D: SyncDev, R: Read, W: Write, E: Write, J: Journal>(
     alloc: Global,
     queue: &mut Queue<D>,
@@ -144,7 +146,7 @@ fn serve_noted<D: SyncDev, R: Read, W: Write, E: Write, J: Journal>(
     log: &mut SessionLog,
 ) -> Result<SessionEnd, ServiceFault>
     requires { AreExports queue.old.stack.config exports.now }
-    ensures served { ServesNoted (exchanged R.remaining W.contents E.contents client.entry client.exit) (export_records exports.now) queue.old queue.new log.new result }
+    ensures served { ServesNoted (exchanged R.remaining W.contents E.contents (journal_record J.priorities J.shows) client.entry client.exit) (export_records exports.now) queue.old queue.new log.new result }
     ensures writer { HasWritten client.entry.writer.now client.exit.1.0.now (result_fault result) }
 {
     let Client {
@@ -155,6 +157,7 @@ fn serve_noted<D: SyncDev, R: Read, W: Write, E: Write, J: Journal>(
         journal,
     } = client;
     if quiet {
+        note_unsigned(errors, queue.stack().config());
         return serve(alloc, queue, exports, reader, writer, log);
     }
     note_start(errors, queue.stack().config(), exports);

@@ -8,6 +8,7 @@ ghost use Rattle.partition_commands.specs.Warnings.{notes_of};
 ghost use Rattle.stack_commands.specs.Commands.{EndsCommand, ExplainsEnd, ExplainsUsage, IsCommandDone, IsRepeated, is_usage, misuse_of, object_asked, output_is_data, said_message, told_to, writes_data};
 ghost use Rattle.stack_commands.specs.Contexts.{IsToldAs};
 ghost use Rattle.stack_commands.specs.Lines.{DoesWords, EndsUnresolved, EndsWords, ResolvesLine};
+ghost use Rattle.stack_commands.specs.ServiceLog.{journal_record};
 ghost use Rattle.stack_commands.specs.Uses.{uses};
 
 use crate::command_end::CommandEnd;
@@ -57,8 +58,8 @@ pub fn command<
 ) -> u8
     requires reader { reader.old.failed ≡ false }
     requires writer { writer.old.failed ≡ false }
-    ensures { ((result ≡ 0) × IsCommandDone (map string_bytes words.now) (uses (calls I.relations I.Dev.state images.old images.new) (drawing G.gives G.Generator.stream generators.old generators.new) (streams (S.remaining reader.old.inner) (W.contents writer.old.inner)) (streams (S.remaining reader.new.inner) (W.contents writer.new.inner)) (notes_of E.contents errors.old errors.new)))
-        ⊎ EndsCommand (uses (calls I.relations I.Dev.state images.old images.new) (drawing G.gives G.Generator.stream generators.old generators.new) (streams (S.remaining reader.old.inner) (W.contents writer.old.inner)) (streams (S.remaining reader.new.inner) (W.contents writer.new.inner)) (notes_of E.contents errors.old errors.new)) (told_to (map string_bytes words.now) writer.new.failed (E.contents errors.old.inner) (E.contents errors.new.inner) errors.new.failed) result }
+    ensures { ((result ≡ 0) × IsCommandDone (map string_bytes words.now) (uses (calls I.relations I.Dev.state images.old images.new) (drawing G.gives G.Generator.stream generators.old generators.new) (streams (S.remaining reader.old.inner) (W.contents writer.old.inner)) (streams (S.remaining reader.new.inner) (W.contents writer.new.inner)) (notes_of E.contents errors.old errors.new) (journal_record G.priorities G.shows generators.old)))
+        ⊎ EndsCommand (uses (calls I.relations I.Dev.state images.old images.new) (drawing G.gives G.Generator.stream generators.old generators.new) (streams (S.remaining reader.old.inner) (W.contents writer.old.inner)) (streams (S.remaining reader.new.inner) (W.contents writer.new.inner)) (notes_of E.contents errors.old errors.new) (journal_record G.priorities G.shows generators.old)) (told_to (map string_bytes words.now) writer.new.failed (E.contents errors.old.inner) (E.contents errors.new.inner) errors.new.failed) result }
 {
     match run(alloc, images, generators, words, reader, writer, errors) {
         Ok(()) => DONE,
@@ -219,8 +220,8 @@ fn run<'a, I: Images, G: Generators + Progress + Watchers + Journal, S: Read, W:
 ) -> Result<(), CommandEnd<'a>>
     requires reader { reader.old.failed ≡ false }
     requires writer { writer.old.failed ≡ false }
-    ensures ok { OnOk result (DoesWords I.relations I.Dev.state S.remaining W.contents images.old images.new (drawing G.gives G.Generator.stream generators.old generators.new) reader.old reader.new writer.old writer.new (notes_of E.contents errors.old errors.new) (map string_bytes words.now)) }
-    ensures err { IfErr result (EndsWords I.relations I.Dev.state S.remaining W.contents images.old images.new (drawing G.gives G.Generator.stream generators.old generators.new) reader.old reader.new writer.old writer.new (notes_of E.contents errors.old errors.new) (map string_bytes words.now)) }
+    ensures ok { OnOk result (DoesWords I.relations I.Dev.state S.remaining W.contents images.old images.new (drawing G.gives G.Generator.stream generators.old generators.new) reader.old reader.new writer.old writer.new (notes_of E.contents errors.old errors.new) (journal_record G.priorities G.shows generators.old) (map string_bytes words.now)) }
+    ensures err { IfErr result (EndsWords I.relations I.Dev.state S.remaining W.contents images.old images.new (drawing G.gives G.Generator.stream generators.old generators.new) reader.old reader.new writer.old writer.new (notes_of E.contents errors.old errors.new) (journal_record G.priorities G.shows generators.old) (map string_bytes words.now)) }
 {
     let said = parse(alloc, words)?;
     let line = resolve_line(alloc, images, said)?;

@@ -11,7 +11,7 @@ use request_queue::Queue;
 use std::io::Write;
 
 /// Prints how many requests were answered, of how many bytes, how many of them with an input/output error, how many because a device
-/// has no space left, how many blocks were restored, if any, and why the session ended.
+/// has no space left, how often blocks were restored, if any was, and why the session ended.
 pub(crate) fn note_end<E: Write>(
     errors: &mut Counted<E>,
     tally: Tally,
@@ -23,7 +23,7 @@ pub(crate) fn note_end<E: Write>(
     let _said = say_served(errors, tally, restored, end_reason(outcome));
 }
 
-/// Returns how many blocks the stack has restored since it had restored that many.
+/// Returns how often the stack has restored a block since it had done so that many times.
 pub(crate) fn restored_since<D: BlockDev>(queue: &Queue<D>, before: u64) -> u64
     ensures { result ≡ queue.now.stack.restored - before }
 {
@@ -64,7 +64,7 @@ fn say_tally<W: Write>(writer: &mut Counted<W>, tally: Tally) -> Result<(), Writ
     ))
 }
 
-// `, restored K blocks`, if some were
+// `, restored blocks K times`, if some were: a block that is read again can be restored again
 #[tactic(auto, unfolding(crate::specs::ServiceLog::restored_text))]
 fn say_restored<W: Write>(writer: &mut Counted<W>, count: u64) -> Result<(), WriteFault>
     ensures { Writes W.contents writer.old writer.new (restored_text count) result }
@@ -72,7 +72,7 @@ fn say_restored<W: Write>(writer: &mut Counted<W>, count: u64) -> Result<(), Wri
     if count == 0 {
         return writer.put(b"");
     }
-    writer.print(format_args!(", restored {count} blocks"))
+    writer.print(format_args!(", restored blocks {count} times"))
 }
 
 // `; REASON`

@@ -106,7 +106,7 @@ module _ {c : Configuration} {p : VerityPart} {n : ℕ} (b : BlockAt c p n) wher
 
   -- what the leaves beneath the device agree on
   agreed : (images : Images) → AgreesOn c (leaves_of c (mapped p.device.0)) images → AgreesAt (block_in c p.verity.now (p.first / block_sectors p.verity.now)) images
-  agreed images = block-agreed c p.device.0 p.line p.verity.now (p.first / block_sectors p.verity.now) b.line b.there images b.loaded
+  agreed images = block-agreed c p.device.0 p.line p.verity.now (p.first / block_sectors p.verity.now) b.line images b.loaded
 
   block-cost : (chain_expected (block_in c p.verity.now (p.first / block_sectors p.verity.now))).cost ≤ read_cost c (mapped p.device.0)
   block-cost =
@@ -143,7 +143,7 @@ module _ {c : Configuration} {p : VerityPart} {n : ℕ} (b : BlockAt c p n) wher
         exact = λ sure.
             let before : IsCertain (chain_expected (block_in c p.verity.now (p.first / block_sectors p.verity.now))) old = record {
               steady = AreSteady-kept new old (sym q.moved.moved.fixed) (AreSteady-within new (λ i is. subst IsTrue (sym (verity-leaves c p.verity.now 0 i)) is) sure.steady);
-              agrees = λ meets. line-agreed c p.device.0 p.line p.verity.now (p.first / block_sectors p.verity.now) b.line b.there (steady_images old) (subst (AgreesOn c (target_leaves c (verity_target p.verity.now))) (images-kept q.moved) sure.agrees);
+              agrees = λ meets. line-agreed c p.device.0 p.line p.verity.now (p.first / block_sectors p.verity.now) b.line (steady_images old) (subst (AgreesOn c (target_leaves c (verity_target p.verity.now))) (images-kept q.moved) sure.agrees);
             } in
             ap (verity_block c (steady_images new) p.verity.now) q.may.0 ∙ ap (λ (m : Images). verity_block c m p.verity.now (p.first / block_sectors p.verity.now)) (images-kept q.moved) ∙ q.exact before;
       } in

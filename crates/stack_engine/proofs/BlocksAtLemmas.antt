@@ -15,7 +15,6 @@ use Rattle.stack_rules.specs.Trees.{tree_of, block_sectors}
 use Rattle.stack_lines.specs.declared.source.VerityPart.{VerityPart}
 use Rattle.stack_lines.specs.declared.source.Source.TheVariants.{Blocks}
 use Rattle.stack_meaning.specs.Outcomes.{Images, span}
-use Rattle.stack_meaning.specs.Blocks.{hash_sectors}
 use Rattle.stack_meaning.specs.Found.{FoundRecord}
 use Rattle.stack_meaning.specs.Places.{Place, place_of}
 use Rattle.stack_meaning.specs.Agreement.{AgreesOn}
@@ -25,7 +24,7 @@ use Rattle.stack_lines.specs.Clear.{IsClear}
 use Rattle.stack_lines.specs.Caches.{StackCache}
 use Rattle.stack_lines.specs.Sources.{AreWholeBlocks, source_said}
 use Rattle.stack_lines.specs.Touches.{leaves_of}
-use Rattle.stack_lines.specs.Walks.{HasVerity, block_in, spare_cost}
+use Rattle.stack_lines.specs.Walks.{HasVerity, block_in, spare_cost, way_cost}
 use Rattle.stack_meaning.proofs.lemmas.LeafListLemmas.{AreSteady-kept, images-kept}
 use Rattle.stack_lines.proofs.lemmas.VerityLineLemmas.{IsWholeSectors, data-whole, blocks-below}
 use Rattle.stack_engine.specs.Premises.{CanRead}
@@ -40,9 +39,9 @@ blocks_place c p n = record { said = source_said c (Blocks p); cost = n * read_c
 
 -- what the way to a block costs
 abbrev pub path_cost : Configuration → Verity → ℕ
-path_cost c v = levels (tree_of v) * (hash_sectors v * (block_in c v 0).on_hash.cost)
+path_cost c v = levels (tree_of v) * way_cost (block_in c v 0)
 
--- what n sectors, so many ways to blocks, and so many spares cost
+-- what n sectors, so many ways to blocks, and so many spares of data blocks cost
 abbrev pub read_cost_so_far : Configuration → Verity → ℕ → ℕ → ℕ → ℕ
 read_cost_so_far c v n ways spares = n * (block_in c v 0).on_data.cost + ways * path_cost c v + spares * spare_cost (block_in c v 0)
 
@@ -69,7 +68,7 @@ pub record BlocksAt (c : Configuration) (p : VerityPart) (n : ℕ) (found : List
   pub size : IsWholeSectors p.verity.now.data_block
   pub count : n / block_sectors p.verity.now * block_sectors p.verity.now ≡ n
   pub some : 0 < n / block_sectors p.verity.now
-  pub few : n ≤ 128
+  pub few : n ≤ 2048
   pub clear : IsClear c p.data
   pub before : AreBefore p.device.0 p.line (p.first / block_sectors p.verity.now) found
   pub below : p.first + n ≤ lower_size c p.data

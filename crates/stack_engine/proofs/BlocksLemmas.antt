@@ -3,23 +3,21 @@ use Rattle.std.proofs.Common.{◌≡◌, ℕ, ◌+◌, ◌*◌, ◌/◌, ◌%◌
 use Rattle.std.proofs.lemmas.List.{take_all, length-take-le, length-drop}
 use Rattle.std.proofs.lemmas.List.Elements.{All-cons, All-nil, All-append, Contains-push}
 use Rattle.std.proofs.lemmas.Nat.{div-add-mod', div-mul-add, mod-mul-add}
-use Rattle.std.proofs.Math.Nat.{add-mul, mul-add, mul_assoc, mul-le-mul_left, mul-le-mul_right}
+use Rattle.std.proofs.Math.Nat.{add-mul, mul-add, mul-le-mul_left, mul-le-mul_right}
 use Rattle.hash_tree.specs.Chain.{ChainRecord}
-use Rattle.tree_shape.specs.Shape.{levels}
 use Rattle.block_device.specs.Device.{Device}
 use Rattle.dm_table.specs.declared.table.Target.{Target}
 use Rattle.dm_table.specs.declared.table.Target.TheVariants.{Verity as verity_target}
 use Rattle.stack_rules.specs.Records.{Configuration}
 use Rattle.stack_rules.specs.Names.{mapped}
 use Rattle.stack_rules.specs.Descend.{by_name, read_cost, line_read_cost}
-use Rattle.stack_rules.specs.Trees.{tree_of, block_sectors}
+use Rattle.stack_rules.specs.Trees.{block_sectors}
 use Rattle.stack_config.proofs.lemmas.LoadedLineLemmas.{line-read-cost}
 use Rattle.stack_meaning.specs.declared.fault.IoFault.{IoFault}
 use Rattle.stack_meaning.specs.declared.fault.IoFault.TheVariants as io
 use Rattle.stack_lines.specs.declared.source.VerityPart.{VerityPart}
 use Rattle.stack_lines.specs.declared.source.Source.TheVariants.{Blocks}
 use Rattle.stack_meaning.specs.Outcomes.{Images, mismatch}
-use Rattle.stack_meaning.specs.Blocks.{hash_sectors}
 use Rattle.stack_meaning.specs.Found.{FoundRecord, Entry, found_entry}
 use Rattle.stack_meaning.specs.Beneath.{below}
 use Rattle.stack_meaning.specs.Meaning.{line_said, none_said, said_by_name}
@@ -43,6 +41,7 @@ use Rattle.stack_meaning.proofs.lemmas.RunLemmas.{Passes, pass, AllMono, run_ok,
 use Rattle.stack_engine.proofs.lemmas.BlockLemmas.{block_place, chain_fills, block_fails, AllKept-push, Grown-push}
 use Rattle.allocation.specs.Refusal.{IsOutOfMemory}
 use Rattle.stack_meaning.specs.Memory.{largest_allocation}
+use Rattle.stack_engine.proofs.lemmas.WalkLemmas.{chain-spent}
 use Rattle.stack_engine.proofs.BlocksAtLemmas.{part_agrees, blocks_place, path_cost, read_cost_so_far, BlocksAt}
 
 module _ {c : Configuration} {p : VerityPart} {n : ℕ} {found : List FoundRecord} (b : BlocksAt c p n found) where
@@ -78,7 +77,7 @@ module _ {c : Configuration} {p : VerityPart} {n : ℕ} {found : List FoundRecor
 
   -- what the leaves agree on, of one block
   block-agrees : (j : ℕ) → j < m → (images : Images) → part_agrees c p images → AgreesAt (block_in c p.verity.now (index + j)) images
-  block-agrees j inside images = block-agreed c p.device.0 p.line p.verity.now (index + j) b.line (b.there j inside) images b.loaded
+  block-agrees j inside images = block-agreed c p.device.0 p.line p.verity.now (index + j) b.line images b.loaded
 
   fits : (j : ℕ) → j < m → j * block_sectors p.verity.now + block_sectors p.verity.now ≤ n
   fits j inside =
@@ -103,7 +102,7 @@ module _ {c : Configuration} {p : VerityPart} {n : ℕ} {found : List FoundRecor
       let dc : ℕ = (block_in c p.verity.now 0).on_data.cost in
       let path : ℕ = path_cost c p.verity.now in
       let mend : ℕ = spare_cost (block_in c p.verity.now 0) in
-      let one : block_sectors p.verity.now * dc + path + mend ≤ read_cost c (mapped p.device.0) = omega (arith, chain-cost 0, mul_assoc (levels (tree_of p.verity.now)) (hash_sectors p.verity.now) (block_in c p.verity.now 0).on_hash.cost) in
+      let one : block_sectors p.verity.now * dc + path + mend ≤ read_cost c (mapped p.device.0) = omega (arith, chain-cost 0, chain-spent (block_in c p.verity.now 0)) in
       let all : n * (block_sectors p.verity.now * dc + path + mend) ≤ n * read_cost c (mapped p.device.0) = mul-le-mul_left n one in
       let apart : n * (block_sectors p.verity.now * dc + path + mend) ≡ n * (block_sectors p.verity.now * dc) + n * path + n * mend = mul-add n (block_sectors p.verity.now * dc + path) mend ∙ ap (λ (k : ℕ). k + n * mend) (mul-add n (block_sectors p.verity.now * dc) path) in
       let once : 1 * dc ≤ block_sectors p.verity.now * dc = mul-le-mul_right dc b.size.some in
@@ -163,7 +162,7 @@ module _ {c : Configuration} {p : VerityPart} {n : ℕ} {found : List FoundRecor
           exact = λ sure.
               let before : IsCertain (chain_expected (block_in c p.verity.now (index + j))) mid = record {
                 steady = AreSteady-kept new mid (sym moved.moved.fixed) (AreSteady-within new (λ i is. subst IsTrue (sym (verity-leaves c p.verity.now 0 i)) is) sure.steady);
-                agrees = λ meets. line-agreed c p.device.0 p.line p.verity.now (index + j) b.line (b.there j inside) (steady_images mid) (subst (AgreesOn c (target_leaves c (verity_target p.verity.now))) (images-kept moved) sure.agrees);
+                agrees = λ meets. line-agreed c p.device.0 p.line p.verity.now (index + j) b.line (steady_images mid) (subst (AgreesOn c (target_leaves c (verity_target p.verity.now))) (images-kept moved) sure.agrees);
               } in
               ap (λ (i : Images). verity_block c i p.verity.now (index + j)) (images-kept moved) ∙ got.exact before;
         } in

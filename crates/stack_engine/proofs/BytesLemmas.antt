@@ -20,7 +20,7 @@ use Rattle.stack_engine.specs.Bytes.{IsGoodChain, MayBeBytes, AnyBytes, EachByte
 use Rattle.stack_engine.specs.Keeping.{ReadsAs}
 use Rattle.stack_engine.specs.Healing.{HasNoParity}
 use Rattle.stack_engine.specs.Pieces.{stack_with}
-use Rattle.verified_cache.specs.Cache.{CacheRecord}
+use Rattle.stack_lines.specs.Caches.{StackCache, capacity_of}
 
 -- a chain that was found is good for its line
 kept-good : (c : Configuration) (leaves : List Device) (x : FoundRecord) → IsKept c leaves x → IsGoodChain c x
@@ -43,8 +43,8 @@ may-bytes c lower first n (Err io.NoMemory) p = p.got.may
 
 pub each-bytes : (c : Configuration) (d first n : ℕ) {old new : List Device} (answer : Result (List ℕ) IoFault) {found out : List FoundRecord} → found ≡ []
     → ReadsAs Dropped c (mapped d) first n (record { old = old; new = new; before = found; after = out }) answer → AsksOnly (MeetVerity (said_at c (mapped d)) first n → HasNoParity c) (leaves_of c (mapped d)) old new answer
-    → {before after : CacheRecord} {was is : ℕ} → after.capacity ≡ before.capacity → EachBytes (stack_with c old before was) d first n answer (stack_with c new after is)
-each-bytes c d first n {old = old} {new = new} answer {out = out} none p asks {before = before} {after = after} {was = was} {is = is} capacity =
+    → (before after : StackCache) {was is : ℕ} → capacity_of after ≡ capacity_of before → EachBytes (stack_with c old before was) d first n answer (stack_with c new after is)
+each-bytes c d first n {old = old} {new = new} answer {out = out} none p asks before after {was = was} {is = is} capacity =
     let q = subst (λ (u : List FoundRecord). ReadsAs Dropped c (mapped d) first n (record { old = old; new = new; before = u; after = out }) answer) none p in
     let any : AnyBytes (stack_with c _ before was) d first n answer (stack_with c _ after is) = record { config = refl; capacity = capacity; moved = q.reads.got.moved; may = may-bytes c (mapped d) first n answer q.reads; touches = asks-touched asks; fails = asks.ends } in
     record { any = any; steady = λ sure. record { any = any; exact = q.reads.got.exact (record { steady = sure.steady; agrees = sure.agrees }) } }

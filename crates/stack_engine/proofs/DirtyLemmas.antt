@@ -12,7 +12,7 @@ use Rattle.stack_engine.specs.Pieces.{PieceGives}
 use Rattle.stack_engine.specs.Stacks.{StackRecord}
 use Rattle.stack_engine.specs.WritePieces.{PieceHands}
 use Rattle.stack_engine.specs.LeafCalls.{IsLeafCall, LeafCall, LeafCalls}
-use Rattle.stack_engine.specs.SectorCalls.{ReadOf, ReadCalls, WriteTo, WriteCalls, leaf_read, leaf_unread, none_read, line_read, line_unread, units_read, units_unread, part_read, part_unread, zeros_read, fails_read, chain_found, data_read, data_unread, data_full, blocks_read, block_checked, block_differs, block_unread, block_full, hash_kept, hash_full, hash_lost, hash_read, way_down, way_stops, way_full, one_ignored, one_read, next_ignored, next_checked, next_healed, next_differs, together_read, together_unread, blocks_end, blocks_next, blocks_full, leaf_written, leaf_unwritten, none_written, line_written, line_unwritten, units_written, each_written, part_written, part_lost, none_stepped, step_written, step_unwritten, zeros_written, fails_written, one_healed, spare_none, spare_full, spare_checked, spare_differs, spare_unread, sums_past, sums_added, sums_unread, parity_added, parity_unread}
+use Rattle.stack_engine.specs.SectorCalls.{ReadOf, ReadCalls, WriteTo, WriteCalls, leaf_read, leaf_unread, none_read, line_read, line_unread, units_read, units_unread, part_read, part_unread, zeros_read, fails_read, chain_found, data_read, data_unread, data_full, blocks_read, block_checked, block_differs, block_unread, block_full, hash_kept, hash_full, hash_read, way_had, way_healed, way_lost, way_down, way_stops, way_full, one_ignored, one_read, next_ignored, next_checked, next_healed, next_differs, together_read, together_unread, blocks_end, blocks_next, blocks_full, leaf_written, leaf_unwritten, none_written, line_written, line_unwritten, units_written, each_written, part_written, part_lost, none_stepped, step_written, step_unwritten, zeros_written, fails_written, one_healed, one_kept, one_fetched, spare_none, spare_full, spare_checked, spare_differs, spare_unread, sums_past, sums_added, sums_unread, parity_added, parity_unread}
 
 -- a read or a write
 abbrev pub is_transfer : Call → Bool
@@ -62,14 +62,18 @@ reads-only (block_unread a) = reads-only a
 reads-only (block_full x) = tt
 reads-only (hash_kept x bytes is) = tt
 reads-only (hash_full x) = tt
-reads-only (hash_lost a) = reads-only a
 reads-only (hash_read a) = reads-only a
+reads-only (way_had settled a) = reads-only a
+reads-only (way_healed {calls = calls} {later = later} heals a b) = are-append is_read calls later (reads-only a) (reads-only b)
+reads-only (way_lost a) = reads-only a
 reads-only (way_down {calls = calls} {later = later} a b) = are-append is_read calls later (reads-only a) (reads-only b)
 reads-only (way_stops last next a) = reads-only a
 reads-only (way_full p l expected last next) = tt
 reads-only (one_ignored p expected last is) = tt
 reads-only (one_read last used settled a) = reads-only a
 reads-only (one_healed last {calls = calls} {later = later} used heals a b) = are-append is_read calls later (reads-only a) (reads-only b)
+reads-only (one_kept p last bytes used is) = tt
+reads-only (one_fetched a) = reads-only a
 reads-only (next_ignored last is a) = reads-only a
 reads-only (next_checked block last used is a) = reads-only a
 reads-only (next_healed block last {calls = calls} {later = later} used len other a b) = are-append is_read calls later (reads-only a) (reads-only b)

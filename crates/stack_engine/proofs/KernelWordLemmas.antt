@@ -6,7 +6,7 @@ use Rattle.std.specs.Option.{option_map_or, option_or}
 use Rattle.std.specs.Str.{bytes_eq}
 use Rattle.std.proofs.Math.Path.{fun_ext}
 use Rattle.std.proofs.lemmas.List.{length-map}
-use Rattle.tree_shape.specs.Shape.{levels}
+use Rattle.tree_shape.specs.Shape.{ancestor, levels}
 use Rattle.dm_table.specs.declared.table.Line.{Line}
 use Rattle.dm_table.specs.declared.table.Target.{Target}
 use Rattle.dm_table.specs.declared.table.Target.TheVariants as targets
@@ -22,8 +22,8 @@ use Rattle.stack_rules.specs.Trees.{tree_of, block_sectors, zero_block}
 use Rattle.stack_rules.specs.targets.Verity.{parity_bases}
 use Rattle.stack_meaning.specs.declared.units.CryptUnits.{CryptUnits}
 use Rattle.stack_meaning.specs.Beneath.{below, beneath, said_or}
-use Rattle.stack_meaning.specs.Blocks.{hash_sectors, hash_start, next_digest, checked_span, block_below, is_ignored, verified_block}
-use Rattle.stack_meaning.specs.Spares.{BlockSources, data_spare, healed_outcome}
+use Rattle.stack_meaning.specs.Blocks.{covered_hash, hash_block_at, hash_sectors, hash_start, next_digest, checked_span, block_below, is_ignored, verified_block}
+use Rattle.stack_meaning.specs.Spares.{BlockSources, covered_spare, healed_outcome}
 use Rattle.stack_meaning.specs.targets.Verity.{sources_over}
 use Rattle.stack_meaning.specs.Found.{FoundRecord, Entry}
 use Rattle.stack_meaning.specs.Meaning.{IsShown, Said, content_part, leaf_said, line_said, none_said, said_by_name}
@@ -41,7 +41,7 @@ then-same (Ok bytes) next other same = same bytes
 then-same (Err fault) next other same = refl
 
 -- the same spare
-spare-same : (v : Verity) (from : BlockSources) (o : Option Parity) (i : ℕ) (expected : List ℕ) → data_spare (without_kernel_words v) from o i expected ≡ data_spare v from o i expected
+spare-same : (v : Verity) (from : BlockSources) (o : Option Parity) (i : ℕ) (expected : List ℕ) → covered_spare (without_kernel_words v) from o i expected ≡ covered_spare v from o i expected
 spare-same v from None i expected = refl
 spare-same v from (Some p) i expected = refl
 
@@ -50,8 +50,10 @@ block-same : (v : Verity) (from : BlockSources) (i l : ℕ) (expected : List ℕ
 block-same v from i zero expected =
     ap (λ (x : Outcome). cond (is_ignored v expected) (Ok (zero_block v)) (healed_outcome (checked_span from.on_data (block_sectors v * i) (block_sectors v) v.salt expected) x)) (spare-same v from v.parity i expected)
 block-same v from i (suc l) expected =
-    then-same
-    (checked_span from.on_hash (hash_start v l i) (hash_sectors v) v.salt expected)
+    ap (λ (x : Outcome). then_outcome (healed_outcome (checked_span from.on_hash (hash_start v l i) (hash_sectors v) v.salt expected) x) (λ block. block_below (without_kernel_words v) from i l (next_digest v l i block)))
+    (spare-same v from v.parity (covered_hash v l (ancestor (tree_of v) (l + 1) i)) expected)
+    ∙ then-same
+    (hash_block_at v from l (ancestor (tree_of v) (l + 1) i) expected)
     (λ block. block_below (without_kernel_words v) from i l (next_digest v l i block))
     (λ block. block_below v from i l (next_digest v l i block))
     (λ block. block-same v from i l (next_digest v l i block))

@@ -1,4 +1,4 @@
--- A data block of a line with parity, and its round.
+-- A block of a line with parity, and its round.
 use Rattle.std.proofs.Common.{◌≡◌, ℕ, ◌-◌, ◌*◌, ◌%◌, ◌<◌, ◌≤◌, Some, None, inl, inr, sym, ap, ◌∙◌, arith}
 use Rattle.std.proofs.Math.Nat.{mod-lt, mul-le-mul_right}
 use Rattle.std.proofs.lemmas.Bool.{cases_lt}
@@ -9,7 +9,7 @@ use Rattle.stack_rules.specs.Records.{Configuration}
 use Rattle.stack_rules.specs.Rules.{IsLoaded}
 use Rattle.stack_rules.specs.Trees.{block_sectors, round_count}
 use Rattle.stack_lines.specs.Covered.{HasParity, HasRound}
-use Rattle.stack_lines.specs.Walks.{HasDataBlock}
+use Rattle.stack_lines.specs.Walks.{HasDataBlock, HasVerifiedBlock}
 use Rattle.stack_lines.specs.declared.tree.Tree.{Tree}
 use Rattle.stack_lines.proofs.lemmas.VerityLineLemmas.{data-whole, parity-there}
 
@@ -23,7 +23,11 @@ some-rounds q few some = elim (cases_lt 0 (round_count q)) [
       absurd (omega (arith, nothing, room, some))
 ]
 
-module _ (c : Configuration) (v : Verity) (tree : Tree) (i : ℕ) (loaded : IsLoaded c) (block : HasDataBlock c v tree i) (q : Parity) (has : v.parity ≡ Some q) where
+-- a data block is one that is verified
+pub data-verified : {c : Configuration} {v : Verity} {tree : Tree} {i : ℕ} → HasDataBlock c v tree i → HasVerifiedBlock c v tree i
+data-verified block = record { lies = block.lies; there = omega (arith, block.there) }
+
+module _ (c : Configuration) (v : Verity) (tree : Tree) (i : ℕ) (loaded : IsLoaded c) (block : HasVerifiedBlock c v tree i) (q : Parity) (has : v.parity ≡ Some q) where
   line : HasParity c v q tree
   line = record { lies = block.lies; has = has }
 

@@ -1,4 +1,4 @@
--- Calls of the read of a data block's spare.
+-- Calls of the read of a block's spare.
 use Rattle.std.proofs.Common.{◌≡◌, ℕ, suc, ◌-◌, ◌*◌, ◌<◌, List, Some, None, Result, Ok, Err, subst}
 use Rattle.tree_shape.specs.Digests.{digest}
 use Rattle.block_device.specs.Call.{Call}

@@ -33,7 +33,7 @@ use Rattle.stack_meaning.specs.Reading.{Finds}
 use Rattle.stack_lines.specs.AtOnce.{AreBefore}
 use Rattle.stack_lines.specs.declared.tree.Extent.{Extent}
 use Rattle.stack_lines.specs.Budgets.{ReadsAtMost, part_budget}
-use Rattle.stack_lines.specs.Caches.{IsCached}
+use Rattle.stack_engine.specs.Held.{IsHeld}
 use Rattle.stack_lines.specs.Extents.{IsExtent}
 use Rattle.stack_lines.specs.Sources.{ReadsSource}
 use Rattle.stack_lines.specs.Walks.{block_in, spare_cost, GetsChain, IsWalked}
@@ -242,12 +242,12 @@ row-covers {r = r} {j = j} some taken = elim (cases_lt j r) [ inl low ↦ omega 
 -- The blocks before block j were had, data were read as far as block r, and the bytes are as many as those of the buffer `start`.
 pub record AreChecked (c : Configuration) (p : VerityPart) (chains : Chains) (start : List ℕ) (r j : ℕ) (bytes : List ℕ) (made : List (List ℕ)) (path : List CachedBlock) (old new : List Device) (before now : List FoundRecord) : Type 0 where
   pub size : length bytes ≡ length start
-  pub room : length made ≡ 128
+  pub room : length made ≡ 2048
   pub within : j ≤ length start / 512 / block_sectors p.verity.now
   pub most : r ≤ length start / 512 / block_sectors p.verity.now
   pub after : List FoundRecord
   pub out : AreHandedOut chains before after now
-  pub held : All (IsCached c new) path
+  pub held : All (IsHeld c new) path
   pub had : WereHad c p (length start / 512) r j bytes (record { old = old; new = new; before = before; after = after })
   pub ahead : AreReadAhead c p j r bytes made old
 
@@ -260,7 +260,7 @@ checked-as {c = c} {p = p} {chains = chains} {start = start} {j = j} {bytes = by
 pub record IsTurn (p : VerityPart) (start : List ℕ) (s r j : ℕ) (bytes : List ℕ) : Type 0 where
   pub inside : j < length start / 512 / block_sectors p.verity.now
   pub read : r ≤ length start / 512 / block_sectors p.verity.now
-  pub few : length start / 512 / block_sectors p.verity.now ≤ 128
+  pub few : length start / 512 / block_sectors p.verity.now ≤ 2048
   pub len : length bytes ≡ 512 * (length start / 512)
   pub count : length start / p.verity.now.data_block ≡ length start / 512 / block_sectors p.verity.now
   pub index : p.first / s + j ≡ p.first / block_sectors p.verity.now + j
@@ -271,7 +271,7 @@ pub record IsTurn (p : VerityPart) (start : List ℕ) (s r j : ℕ) (bytes : Lis
 -- the row of `many` blocks from block j on
 pub record IsRow (c : Configuration) (p : VerityPart) (start : List ℕ) (j many : ℕ) (bytes : List ℕ) : Type 0 where
   pub most : j + many ≤ length start / 512 / block_sectors p.verity.now
-  pub few : j + many ≤ 128
+  pub few : j + many ≤ 2048
   pub end : j * p.verity.now.data_block + many * p.verity.now.data_block ≤ length bytes
   pub len : length (take (j * p.verity.now.data_block + many * p.verity.now.data_block - j * p.verity.now.data_block) (drop (j * p.verity.now.data_block) bytes)) ≡ many * p.verity.now.data_block
   pub sectors : length (take (j * p.verity.now.data_block + many * p.verity.now.data_block - j * p.verity.now.data_block) (drop (j * p.verity.now.data_block) bytes)) / 512 ≡ many * block_sectors p.verity.now
@@ -296,7 +296,7 @@ blocks-long {p = p} start bytes j b same whole all =
 
 module _ {c : Configuration} {p : VerityPart} {found : List FoundRecord} {start : List ℕ} (b : BlocksAt c p (length start / 512) found) where
   -- none of them yet
-  pub checked-none : (chains : Chains) {old : List Device} (made : List (List ℕ)) (path : List CachedBlock) → length made ≡ 128 → path ≡ [] → AllKept c old found → AreChecked c p chains start 0 0 start made path old old found found
+  pub checked-none : (chains : Chains) {old : List Device} (made : List (List ℕ)) (path : List CachedBlock) → length made ≡ 2048 → path ≡ [] → AllKept c old found → AreChecked c p chains start 0 0 start made path old old found found
   checked-none chains {old = old} made path room none kept = record {
     size = refl;
     room = room;
@@ -304,7 +304,7 @@ module _ {c : Configuration} {p : VerityPart} {found : List FoundRecord} {start 
     most = omega arith;
     after = found;
     out = none-out chains found;
-    held = subst (All (IsCached c old)) (sym none) (All-nil (IsCached c old));
+    held = subst (All (IsHeld c old)) (sym none) (All-nil (IsHeld c old));
     had = none-had b start kept;
     ahead = λ k low below. absurd (omega (arith, below));
   }
@@ -464,7 +464,7 @@ module _ {c : Configuration} {p : VerityPart} {found : List FoundRecord} {start 
 
       -- the blocks as far as that are stored there as they were read
       module _ (fresh : (many ≡ 0) ⊎ (r ≤ j)) {did : LeafRead} {walk new : List Device} {content_of : List ℕ} {digests : List (List ℕ)} (made : List (List ℕ)) (had : WereHad c p (length start / 512) r j bytes did) (moved : AreRead did.new (path_cost c p.verity.now) walk)
-          (gets : GetsBytes c p.data (block_sectors p.verity.now * (p.first / block_sectors p.verity.now + j)) (many * block_sectors p.verity.now) walk new (Ok content_of)) (whole : AllWhole walk) (room : length made ≡ 128) (ahead : AreReadAhead c p j r bytes made did.old)
+          (gets : GetsBytes c p.data (block_sectors p.verity.now * (p.first / block_sectors p.verity.now + j)) (many * block_sectors p.verity.now) walk new (Ok content_of)) (whole : AllWhole walk) (room : length made ≡ 2048) (ahead : AreReadAhead c p j r bytes made did.old)
           (put : IsPut p start j many bytes content_of) (are : digests ≡ map (digest p.verity.now.salt) (cut p.verity.now.data_block (take (j * p.verity.now.data_block + many * p.verity.now.data_block - j * p.verity.now.data_block) (drop (j * p.verity.now.data_block) (put_mid (j * p.verity.now.data_block) (j * p.verity.now.data_block + many * p.verity.now.data_block - j * p.verity.now.data_block) bytes content_of))))) where
         abbrev u : ℕ
         u = block_sectors p.verity.now

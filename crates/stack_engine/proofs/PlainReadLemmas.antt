@@ -10,7 +10,7 @@ use Rattle.stack_engine.specs.Pieces.{PieceGives}
 use Rattle.stack_engine.specs.Unrestored.{HasNoParity}
 use Rattle.stack_engine.specs.Restored.{restored_after}
 use Rattle.stack_engine.proofs.lemmas.NoParityLemmas.{HasNone, served-none}
-use Rattle.stack_engine.specs.SectorCalls.{DataPlace, spare_of, ReadOf, ReadCalls, leaf_read, leaf_unread, none_read, line_read, line_unread, units_read, units_unread, part_read, part_unread, zeros_read, fails_read, chain_found, data_read, data_unread, data_full, blocks_read, block_checked, block_differs, block_unread, block_full, hash_kept, hash_full, hash_lost, hash_read, way_down, way_stops, way_full, one_ignored, one_read, one_healed, next_ignored, next_checked, next_healed, next_differs, together_read, together_unread, blocks_end, blocks_next, blocks_full, spare_none, spare_full, spare_checked, spare_differs, spare_unread, sums_past, sums_added, sums_unread, parity_added, parity_unread}
+use Rattle.stack_engine.specs.SectorCalls.{DataPlace, spare_of, ReadOf, ReadCalls, leaf_read, leaf_unread, none_read, line_read, line_unread, units_read, units_unread, part_read, part_unread, zeros_read, fails_read, chain_found, data_read, data_unread, data_full, blocks_read, block_checked, block_differs, block_unread, block_full, hash_kept, hash_full, hash_read, way_had, way_healed, way_lost, way_down, way_stops, way_full, one_ignored, one_read, one_healed, one_kept, one_fetched, next_ignored, next_checked, next_healed, next_differs, together_read, together_unread, blocks_end, blocks_next, blocks_full, spare_none, spare_full, spare_checked, spare_differs, spare_unread, sums_past, sums_added, sums_unread, parity_added, parity_unread}
 use Rattle.stack_engine.specs.Stacks.{StackRecord}
 
 clash : {parity : Option Parity} {q : Parity} {X : Type 0} → parity ≡ None → parity ≡ Some q → X
@@ -55,14 +55,18 @@ reads-same none (block_unread a) plain = reads-same none a tt
 reads-same none (block_full x) plain = refl
 reads-same none (hash_kept x bytes is) plain = refl
 reads-same none (hash_full x) plain = refl
-reads-same none (hash_lost a) plain = reads-same none a tt
 reads-same none (hash_read a) plain = reads-same none a tt
-reads-same none (way_down a b) plain = reads-same none b plain ∙ reads-same none a tt
-reads-same none (way_stops last next a) plain = reads-same none a tt
+reads-same none (way_had settled a) plain = reads-same none a tt
+reads-same none (way_healed {spare = spare} heals a b) plain = let vain = spare-vain plain b in vain-same spare _ vain.1 ∙ vain.0 ∙ reads-same none a tt
+reads-same none (way_lost a) plain = reads-same none a plain
+reads-same none (way_down a b) plain = reads-same none b plain ∙ reads-same none a plain
+reads-same none (way_stops last next a) plain = reads-same none a plain
 reads-same none (way_full p l expected last next) plain = refl
 reads-same none (one_ignored p expected last is) plain = refl
 reads-same none (one_read last used settled a) plain = reads-same none a tt
 reads-same none (one_healed last {spare = spare} used heals a b) plain = let vain = spare-vain plain b in vain-same spare _ vain.1 ∙ vain.0 ∙ reads-same none a tt
+reads-same none (one_kept p last bytes used is) plain = refl
+reads-same none (one_fetched a) plain = reads-same none a plain
 reads-same none (next_ignored last is a) plain = reads-same none a plain
 reads-same none (next_checked block last used is a) plain = reads-same none a plain
 reads-same none (next_healed block last used len other a b) plain = absurd (spare-vain plain a).1

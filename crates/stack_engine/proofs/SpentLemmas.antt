@@ -8,9 +8,7 @@ use Rattle.stack_rules.specs.Records.{Configuration}
 use Rattle.stack_rules.specs.Names.{mapped}
 use Rattle.stack_rules.specs.Descend.{by_name, line_read_cost, read_cost}
 use Rattle.stack_rules.specs.Rules.{IsLoaded}
-use Rattle.stack_rules.specs.Trees.{block_sectors, tree_of}
-use Rattle.stack_meaning.specs.Blocks.{hash_sectors}
-use Rattle.tree_shape.specs.Shape.{levels}
+use Rattle.stack_rules.specs.Trees.{block_sectors}
 use Rattle.stack_meaning.specs.Units.{per_unit}
 use Rattle.stack_meaning.proofs.lemmas.UnitSizeLemmas.{per_unit-some}
 use Rattle.std.proofs.lemmas.Nat.{div-add-mod'}
@@ -30,6 +28,7 @@ use Rattle.stack_lines.specs.Walks.{block_in, chain_expected, spare_cost}
 use Rattle.stack_lines.proofs.lemmas.BudgetLemmas.{chain-cost as priced, budget-leaf, budget-apart, served-budget, units-budget, unit-budget, blocks-budget, block-budget}
 use Rattle.stack_lines.proofs.lemmas.UnitSourceLemmas.{units-of}
 use Rattle.stack_lines.proofs.lemmas.VerityLineLemmas.{place-named}
+use Rattle.stack_engine.proofs.lemmas.WalkLemmas.{chain-spent}
 use Rattle.stack_engine.proofs.BlockPartLemmas.{BlockAt}
 use Rattle.stack_engine.proofs.BlocksAtLemmas.{BlocksAt, path_cost, read_cost_so_far}
 
@@ -126,8 +125,7 @@ module _ {c : Configuration} {p : VerityPart} {n : ℕ} {found : List FoundRecor
   all-is : m * (block_sectors p.verity.now * data_cost + path_cost c p.verity.now + mend) ≤ part_budget c p n
   all-is =
       let line : ℕ = line_read_cost (by_name c 0 (read_cost c)) (verity_target p.verity.now) in
-      let way = mul_assoc (levels (tree_of p.verity.now)) (hash_sectors p.verity.now) (block_in c p.verity.now 0).on_hash.cost in
-      let each : block_sectors p.verity.now * data_cost + path_cost c p.verity.now + mend ≤ line = omega (arith, priced c p.verity.now 0, way) in
+      let each : block_sectors p.verity.now * data_cost + path_cost c p.verity.now + mend ≤ line = omega (arith, priced c p.verity.now 0, chain-spent (block_in c p.verity.now 0)) in
       let all : m * (block_sectors p.verity.now * data_cost + path_cost c p.verity.now + mend) ≤ m * line = mul-le-mul_left m each in
       omega (arith, all, blocks-budget c p n m b.size.some b.aligned b.count)
 

@@ -46,13 +46,10 @@ module _ (c : Configuration) (v : Verity) (tree : Tree) (loaded : IsLoaded c) (l
   hash-touched extent is p = asks-up (hash-within c v tree loaded lies) (extent-touched c extent is p)
 
   module _ (d : DevId) (at : tree.device ≡ d) where
-    pub hash-within-device : AreWithin (leaves_of c tree.hash) (leaves_of c (mapped d.0))
-    hash-within-device i out = hash-within c v tree loaded lies i (same-within c at i out)
-
     data-within-device : AreWithin (leaves_of c tree.data) (leaves_of c (mapped d.0))
     data-within-device i out = data-within c v tree loaded lies i (same-within c at i out)
 
     -- after some blocks the hash blocks on the way to the next one were read, and then data blocks
-    pub data-touched : {A B C Unhealed : Type 0} {old mid walk new : List Device} {x : A} {y : B} {result : Result C IoFault} → AsksOnly Unhealed (leaves_of c (mapped d.0)) old mid (Ok x) → AsksOnly Unhealed (leaves_of c tree.hash) mid walk (Ok y)
+    pub data-touched : {A B C Unhealed : Type 0} {old mid walk new : List Device} {x : A} {y : B} {result : Result C IoFault} → AsksOnly Unhealed (leaves_of c (mapped d.0)) old mid (Ok x) → AsksOnly Unhealed (leaves_of c (mapped tree.device.0)) mid walk (Ok y)
         → AsksOnly Unhealed (leaves_of c tree.data) walk new result → AsksOnly Unhealed (leaves_of c (mapped d.0)) old new result
-    data-touched p q r = asks-then (asks-then p (asks-up hash-within-device q)) (asks-up data-within-device r)
+    data-touched p q r = asks-then (asks-then p (asks-up (same-within c at) q)) (asks-up data-within-device r)

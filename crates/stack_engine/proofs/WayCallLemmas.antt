@@ -1,6 +1,6 @@
 -- Calls of reads of blocks on the way to data of a `verity` line.
-use Rattle.std.proofs.Common.{◌≡◌, ℕ, suc, ◌+◌, ◌-◌, ◌*◌, ◌/◌, ◌<◌, ◌≤◌, true, false, List, [], ◌∷◌, ◌++◌, length, get_or, Option, Some, Result, Ok, Err, inl, inr, refl, sym, ap, ◌∙◌, subst, arith}
-use Rattle.std.specs.Prelude.{IfErr}
+use Rattle.std.proofs.Common.{◌≡◌, ℕ, suc, ◌+◌, ◌-◌, ◌*◌, ◌/◌, ◌<◌, ◌≤◌, Bool, IsTrue, true, false, List, [], ◌∷◌, ◌++◌, length, get_or, Option, Some, Result, Ok, Err, inl, inr, refl, sym, ap, ◌∙◌, subst, arith}
+use Rattle.std.specs.Prelude.{IfErr, nat_lt}
 use Rattle.std.proofs.lemmas.Bool.{cases_lt}
 use Rattle.hash_tree.specs.Chain.{ChainRecord, IsGood}
 use Rattle.tree_shape.specs.Digests.{digest}
@@ -17,10 +17,11 @@ use Rattle.stack_lines.specs.declared.source.Source.TheVariants.{Below, Block}
 use Rattle.stack_lines.specs.declared.source.VerityPart.{VerityPart}
 use Rattle.stack_lines.specs.declared.tree.Extent.{Extent}
 use Rattle.stack_lines.specs.declared.tree.Tree.{Tree}
+use Rattle.stack_lines.specs.Walks.{IsBlockOfDigest}
 use Rattle.verified_cache.specs.Cache.{CachedBlock}
 use Rattle.stack_engine.specs.LeafCalls.{LeafCall}
 use Rattle.stack_engine.specs.Restored.{Served, after_spare, restored_after}
-use Rattle.stack_engine.specs.SectorCalls.{AreReadTogether, DataPlace, digest_after, DataRead, ExpectedBlock, Gives, LeadsTo, ReadCalls, ReadOf, ReadsBy, block_of, block_part, data_of, expected_data, expected_hash, hash_of, last_bytes, one_block, place_at, place_in, spare_of, whole_data, chain_found, data_read, data_unread, data_full, block_checked, block_differs, block_unread, hash_lost, hash_read, way_down, way_stops, way_full, one_read, one_healed}
+use Rattle.stack_engine.specs.SectorCalls.{AreReadTogether, DataPlace, digest_after, DataRead, ExpectedBlock, Gives, LeadsTo, ReadCalls, ReadOf, ReadsBy, block_of, block_part, data_of, expected_data, expected_hash, hash_at, hash_of, last_bytes, asked_of, one_asked, one_block, one_kept, one_fetched, place_at, place_in, spare_of, whole_data, chain_found, data_read, data_unread, data_full, block_checked, block_differs, block_unread, hash_read, way_had, way_healed, way_lost, way_of, way_down, way_stops, way_full, one_read, one_healed}
 use Rattle.stack_engine.specs.Healing.{IsHealed, IsSettled, healed_result}
 use Rattle.stack_engine.proofs.LeafCallLemmas.{makes-then}
 use Rattle.stack_engine.proofs.ReadCallLemmas.{reads-none, reads-as, reads-then}
@@ -85,24 +86,38 @@ module _ {D : Type 0} {does : D → Call → D → Type 0} {c : Configuration} w
       → ReadsBy does c (block_of (record { extent = e; salt = salt; digest = expected })) old new (Err fault)
   block-ungiven {e = e} {fault = fault} {old = old} {new = new} count h = reads-as (λ calls a. block_unread a) (subst (λ (k : ℕ). Gives does c (Below e.lower e.first) k old new (Err fault)) count h)
 
-  pub hash-ungiven : {x : ExpectedBlock} {bytes : List ℕ} {old new : Served D} → ReadsBy does c (hash_of x) old new (Ok bytes) → ReadsBy does c (hash_of x) old new (Err io.NoMemory)
-  hash-ungiven h = reads-as (λ calls a. hash_lost a) h
-
   pub hash-given : {x : ExpectedBlock} {old new : Served D} {answer : Result (List ℕ) IoFault} → ReadsBy does c (block_of x) old new answer → ReadsBy does c (hash_of x) old new answer
   hash-given h = reads-as (λ calls a. hash_read a) h
+
+  -- calls after which the spare that they read is counted
+  counted : {what rest both : ReadOf} {old mid new : Served D} {answer spare end : Result (List ℕ) IoFault} → ((calls more : List LeafCall) → ReadCalls c what calls old.restored mid.restored answer → ReadCalls c rest more mid.restored new.restored spare → ReadCalls c both (calls ++ more) old.restored (restored_after spare new.restored) end)
+      → ReadsBy does c what old mid answer → ReadsBy does c rest mid new spare → ReadsBy does c both old (after_spare spare new) end
+  counted both h k = record { made = makes-then both h.made k.made }
+
+  -- ---- a hash block on the way
+
+  pub way-had : {p : DataPlace} {l : ℕ} {expected : List ℕ} {old new : Served D} {answer : Result (List ℕ) IoFault} → IfErr answer (IsSettled p.verity.parity) → ReadsBy does c (hash_of (expected_hash p l expected)) old new answer → ReadsBy does c (way_of p l expected) old new answer
+  way-had settled h = reads-as (λ calls a. way_had settled a) h
+
+  pub way-healed : {p : DataPlace} {l : ℕ} {expected : List ℕ} {fault : IoFault} {old mid new : Served D} {spare : Result (List ℕ) IoFault} → IsHealed p.verity.parity fault → ReadsBy does c (hash_of (expected_hash p l expected)) old mid (Err fault) → ReadsBy does c (spare_of (hash_at p l) expected) mid new spare
+      → ReadsBy does c (way_of p l expected) old (after_spare spare new) (healed_result fault spare)
+  way-healed heals h got = counted (λ calls later a b. way_healed heals a b) h got
+
+  pub way-ungiven : {p : DataPlace} {l : ℕ} {expected bytes : List ℕ} {old new : Served D} → ReadsBy does c (way_of p l expected) old new (Ok bytes) → ReadsBy does c (way_of p l expected) old new (Err io.NoMemory)
+  way-ungiven h = reads-as (λ calls a. way_lost a) h
 
   -- ---- the way
 
   pub leads-begin : (what : ReadOf) {old : Served D} → LeadsTo does c what what old old
   leads-begin what = record { later = λ new answer h. h }
 
-  pub way-led : (n l : ℕ) (block : List ℕ) {what : ReadOf} {p : DataPlace} {expected last : List ℕ} {next : DataRead} {old mid new : Served D} → n ≡ suc l → LeadsTo does c what (data_of p n expected last next) old mid → ReadsBy does c (hash_of (expected_hash p l expected)) mid new (Ok block)
+  pub way-led : (n l : ℕ) (block : List ℕ) {what : ReadOf} {p : DataPlace} {expected last : List ℕ} {next : DataRead} {old mid new : Served D} → n ≡ suc l → LeadsTo does c what (data_of p n expected last next) old mid → ReadsBy does c (way_of p l expected) mid new (Ok block)
       → LeadsTo does c what (data_of p l (next_digest p.verity l p.index block) block next) old new
   way-led n l block {p = p} {expected = expected} {last = last} {next = next} {mid = mid} above led got = record {
     later = λ end answer rest. led.later end answer (subst (λ (k : ℕ). ReadsBy does c (data_of p k expected last next) mid end answer) (sym above) (reads-then (λ calls later a b. way_down a b) got rest));
   }
 
-  pub way-unled : (n l : ℕ) {what : ReadOf} {p : DataPlace} {expected last : List ℕ} {next : DataRead} {old mid new : Served D} {fault : IoFault} → n ≡ suc l → LeadsTo does c what (data_of p n expected last next) old mid → ReadsBy does c (hash_of (expected_hash p l expected)) mid new (Err fault)
+  pub way-unled : (n l : ℕ) {what : ReadOf} {p : DataPlace} {expected last : List ℕ} {next : DataRead} {old mid new : Served D} {fault : IoFault} → n ≡ suc l → LeadsTo does c what (data_of p n expected last next) old mid → ReadsBy does c (way_of p l expected) mid new (Err fault)
       → ReadsBy does c what old new (Err fault)
   way-unled n l {p = p} {expected = expected} {last = last} {next = next} {mid = mid} {new = new} {fault = fault} above led got =
       led.later new (Err fault) (subst (λ (k : ℕ). ReadsBy does c (data_of p k expected last next) mid new (Err fault)) (sym above) (reads-as (λ calls a. way_stops last next a) got))
@@ -122,29 +137,35 @@ module _ {D : Type 0} {does : D → Call → D → Type 0} {c : Configuration} w
   one-given {p = p} {expected = expected} {old = old} {new = new} {answer = answer} last used at settled h =
       reads-as (λ calls a. one_read last used settled a) (subst (λ (x : Extent). ReadsBy does c (block_of (record { extent = x; salt = p.verity.salt; digest = expected })) old new answer) at h)
 
-  -- calls after which the spare that they read is counted
-  counted : {what rest both : ReadOf} {old mid new : Served D} {answer spare end : Result (List ℕ) IoFault} → ((calls more : List LeafCall) → ReadCalls c what calls old.restored mid.restored answer → ReadCalls c rest more mid.restored new.restored spare → ReadCalls c both (calls ++ more) old.restored (restored_after spare new.restored) end)
-      → ReadsBy does c what old mid answer → ReadsBy does c rest mid new spare → ReadsBy does c both old (after_spare spare new) end
-  counted both h k = record { made = makes-then both h.made k.made }
-
   -- by its spare
   pub one-healed : {p : DataPlace} {e : Extent} {expected : List ℕ} {fault : IoFault} {old mid new : Served D} {spare : Result (List ℕ) IoFault} (last : List ℕ) → is_ignored p.verity expected ≡ false → IsHealed p.verity.parity fault → e ≡ (expected_data p expected).extent
       → ReadsBy does c (block_of (record { extent = e; salt = p.verity.salt; digest = expected })) old mid (Err fault) → ReadsBy does c (spare_of p expected) mid new spare → ReadsBy does c (data_of p 0 expected last one_block) old (after_spare spare new) (healed_result fault spare)
   one-healed {p = p} {expected = expected} {fault = fault} {old = old} {mid = mid} last used heals at h got =
       counted (λ calls later a b. one_healed last used heals a b) (subst (λ (x : Extent). ReadsBy does c (block_of (record { extent = x; salt = p.verity.salt; digest = expected })) old mid (Err fault)) at h) got
 
-  -- of a part
-  module _ (x : VerityPart) (n : ℕ) {p : DataPlace} {s : ℕ} (sectors : s ≡ block_sectors x.verity.now) (same : p ≡ place_at x (x.first / s)) where
-    here : {old new : Served D} {answer : Result (List ℕ) IoFault} → ReadsBy does c (whole_data p one_block) old new answer → ReadsBy does c (whole_data (place_at x (x.first / block_sectors x.verity.now)) one_block) old new answer
-    here {old = old} {new = new} {answer = answer} h = subst (λ (q : DataPlace). ReadsBy does c (whole_data q one_block) old new answer) (same ∙ ap (λ (k : ℕ). place_at x (x.first / k)) sectors) h
+  -- of all of it, or of a part of it alone
+  pub one-asked : {p : DataPlace} {expected last : List ℕ} {old new : Served D} {answer : Result (List ℕ) IoFault} (part : Bool) → ReadsBy does c (data_of p 0 expected last one_block) old new answer → ReadsBy does c (data_of p 0 expected last (one_asked part)) old new answer
+  one-asked true h = reads-as (λ calls a. one_fetched a) h
+  one-asked false h = h
 
-    pub data-given : {content bytes : List ℕ} {old new : Served D} → bytes ≡ block_part x n content → ReadsBy does c (whole_data p one_block) old new (Ok content) → Gives does c (Block x) n old new (Ok bytes)
+  -- of a part of it, from the kept one
+  pub one-kept : (p : DataPlace) {expected : List ℕ} (last bytes : List ℕ) {old : Served D} (part : Bool) → IsTrue part → is_ignored p.verity expected ≡ false → IsBlockOfDigest (block_sectors p.verity) p.verity.salt expected bytes → ReadsBy does c (data_of p 0 expected last (one_asked part)) old old (Ok bytes)
+  one-kept p last bytes true is used good = reads-none (one_kept p last bytes used good)
+  one-kept p last bytes false is used good = absurd cc
+
+  -- of a part
+  module _ (x : VerityPart) (n : ℕ) {p : DataPlace} {s : ℕ} (sectors : s ≡ block_sectors x.verity.now) (same : p ≡ place_at x (x.first / s)) {part : Bool} (is_part : part ≡ nat_lt n s) where
+    here : {old new : Served D} {answer : Result (List ℕ) IoFault} → ReadsBy does c (whole_data p (one_asked part)) old new answer → ReadsBy does c (whole_data (place_at x (x.first / block_sectors x.verity.now)) (asked_of x n)) old new answer
+    here {old = old} {new = new} {answer = answer} h = subst (λ (b : Bool). ReadsBy does c (whole_data (place_at x (x.first / block_sectors x.verity.now)) (one_asked b)) old new answer) (is_part ∙ ap (nat_lt n) sectors)
+        (subst (λ (q : DataPlace). ReadsBy does c (whole_data q (one_asked part)) old new answer) (same ∙ ap (λ (k : ℕ). place_at x (x.first / k)) sectors) h)
+
+    pub data-given : {content bytes : List ℕ} {old new : Served D} → bytes ≡ block_part x n content → ReadsBy does c (whole_data p (one_asked part)) old new (Ok content) → Gives does c (Block x) n old new (Ok bytes)
     data-given {old = old} {new = new} is h = subst (λ (b : List ℕ). Gives does c (Block x) n old new (Ok b)) (sym is) (reads-as (λ calls a. data_read n a) (here h))
 
-    pub data-ungiven : {fault : IoFault} {old new : Served D} → ReadsBy does c (whole_data p one_block) old new (Err fault) → Gives does c (Block x) n old new (Err fault)
+    pub data-ungiven : {fault : IoFault} {old new : Served D} → ReadsBy does c (whole_data p (one_asked part)) old new (Err fault) → Gives does c (Block x) n old new (Err fault)
     data-ungiven h = reads-as (λ calls a. data_unread n a) (here h)
 
-    pub data-short : {content : List ℕ} {old new : Served D} → ReadsBy does c (whole_data p one_block) old new (Ok content) → Gives does c (Block x) n old new (Err io.NoMemory)
+    pub data-short : {content : List ℕ} {old new : Served D} → ReadsBy does c (whole_data p (one_asked part)) old new (Ok content) → Gives does c (Block x) n old new (Err io.NoMemory)
     data-short h = reads-as (λ calls a. data_full n a) (here h)
 
   pub chain-given : (x : VerityPart) (n : ℕ) {bytes : List ℕ} {old : Served D} (chain : ChainRecord) → bytes ≡ block_part x n chain.content → chain.index ≡ x.first / block_sectors x.verity.now → IsGood (tree_of x.verity.now) x.verity.now.salt x.verity.now.root chain → Gives does c (Block x) n old old (Ok bytes)

@@ -15,12 +15,12 @@ use Rattle.stack_lines.specs.declared.source.Source.{Source}
 use Rattle.stack_lines.specs.declared.source.Source.TheVariants.{Units, UnitPart}
 use Rattle.stack_lines.specs.declared.units.WholeUnit.{WholeUnit}
 use Rattle.stack_lines.specs.Caches.{StackCache, IsCacheOf, KeepsCache}
-use Rattle.stack_lines.specs.Forgetting.{Forgets}
+use Rattle.stack_lines.specs.Forgetting.{DropsLast, Forgets}
 use Rattle.stack_lines.specs.Sources.{AreUnits, IsWholeOf, source_said}
 use Rattle.stack_lines.specs.Touches.{leaves_of}
 use Rattle.stack_lines.specs.WriteBudgets.{Counter, CountsAtMost, write_budget, crypt_write_budget}
 use Rattle.stack_lines.specs.Writing.{SomeEncrypt, sectors_in}
-use Rattle.stack_lines.proofs.lemmas.KeptLemmas.{forgets-none, forgets-then, forgets-up}
+use Rattle.stack_lines.proofs.lemmas.KeptLemmas.{drops-none, drops-then, forgets-none, forgets-then, forgets-up}
 use Rattle.stack_lines.proofs.lemmas.TouchLemmas.{served-within}
 use Rattle.stack_lines.proofs.lemmas.WriteRunLemmas.{length-sectors_in}
 use Rattle.stack_engine.specs.Backings.{BackingRecord}
@@ -43,6 +43,7 @@ write-step-none {at = at} sound = record {
   cached = record { capacity = refl; sound = sound };
   uncounted = refl;
   forgets = forgets-none at.cache.blocks.blocks (AreRead-none 0 at.leaves);
+  drops = drops-none at.cache.last (AreRead-none 0 at.leaves);
 }
 
 -- the first m of n sectors of a device
@@ -62,6 +63,7 @@ module _ {c : Configuration} {d first at all count n : ℕ} {source : Source} {b
     cached = record { capacity = own.cached.capacity ∙ before.cached.capacity; sound = own.cached.sound };
     uncounted = own.uncounted ∙ before.uncounted;
     forgets = forgets-then before.forgets (forgets-up (served-within c d (first + at / 512) count source loaded run.some run.served) own.forgets);
+    drops = drops-then before.drops own.drops;
   }
 
   -- it ended in a fault
@@ -72,6 +74,7 @@ module _ {c : Configuration} {d first at all count n : ℕ} {source : Source} {b
     cached = device-write-step.cached;
     uncounted = device-write-step.uncounted;
     forgets = device-write-step.forgets;
+    drops = device-write-step.drops;
   }
 
 -- ---- units, one after another
@@ -99,6 +102,7 @@ module _ {c : Configuration} {x : CryptPart} {n at size end : ℕ} (step : IsSte
     cached = one-cached;
     uncounted = here.uncounted ∙ before.uncounted;
     forgets = forgets-then before.forgets here.forgets;
+    drops = drops-then before.drops here.drops;
   }
 
   -- it ended in a fault
@@ -109,6 +113,7 @@ module _ {c : Configuration} {x : CryptPart} {n at size end : ℕ} (step : IsSte
     cached = one-cached;
     uncounted = here.uncounted ∙ before.uncounted;
     forgets = forgets-then before.forgets here.forgets;
+    drops = drops-then before.drops here.drops;
   }
 
 -- ---- part of a unit
@@ -132,6 +137,11 @@ module _ (c : Configuration) (x : CryptPart) (whole : WholeUnit) (bytes : List �
       let same : mid.cache ≡ old.cache = unit-read.same unmet in
       subst (λ (l : StackCache). Forgets c (leaves_of c x.lower) old.leaves mid.leaves old.cache.blocks.blocks l.blocks.blocks) (sym same) (forgets-none old.cache.blocks.blocks moved)
 
+  read-drops : DropsLast old.leaves mid.leaves old.cache.last mid.cache.last
+  read-drops =
+      let same : mid.cache ≡ old.cache = unit-read.same unmet in
+      subst (λ (l : StackCache). DropsLast old.leaves mid.leaves old.cache.last l.last) (sym same) (drops-none old.cache.last moved)
+
   -- the whole one was read, and not written
   pub part-read-step : IsWriteStep c (write_to c (UnitPart x) (length bytes / 512)) old mid
   part-read-step = record {
@@ -140,6 +150,7 @@ module _ (c : Configuration) (x : CryptPart) (whole : WholeUnit) (bytes : List �
     cached = unit-read.cached;
     uncounted = unit-read.uncounted unmet;
     forgets = read-forgets;
+    drops = read-drops;
   }
 
   -- and written
@@ -152,4 +163,5 @@ module _ (c : Configuration) (x : CryptPart) (whole : WholeUnit) (bytes : List �
         cached = record { capacity = unit.cached.capacity ∙ unit-read.cached.capacity; sound = unit.cached.sound };
         uncounted = unit.uncounted ∙ unit-read.uncounted unmet;
         forgets = forgets-then read-forgets (subst (λ (y : CryptPart). Forgets c (leaves_of c y.lower) mid.leaves new.leaves mid.cache.blocks.blocks new.cache.blocks.blocks) of.from unit.forgets);
+        drops = drops-then read-drops unit.drops;
       }

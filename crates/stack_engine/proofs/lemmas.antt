@@ -4,6 +4,7 @@ pub mod BlockLemmas
 pub mod CallEndLemmas
 pub mod DamagedLemmas
 pub mod FormattedLemmas
+pub mod HealedLemmas
 pub mod MendLemmas
 pub mod NoParityLemmas
 pub mod PieceLemmas

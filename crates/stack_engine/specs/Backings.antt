@@ -16,7 +16,7 @@ use Rattle.stack_engine.specs.declared.backing.Backing.{Backing}
 abbrev pub leaves_in : {D : Type 0} → (D → Device) → Backing D → List Device
 leaves_in state backing = map state backing.devices.items
 
--- the leaves, what is kept of hash blocks, and how many blocks were restored
+-- the leaves, the blocks that are kept, and how many blocks were restored
 pub record BackingRecord : Type 0 where
   pub leaves : List Device
   pub cache : StackCache
@@ -29,13 +29,13 @@ backing_of state backing = record { leaves = leaves_in state backing; cache = ba
 abbrev pub served : {D : Type 0} → Backing D → Served D
 served backing = serving backing.devices.items backing.restored
 
--- it serves the configuration, and what is kept of hash blocks is sound
+-- it serves the configuration, and the blocks that are kept are sound
 abbrev pub IsBacking : {D : Type 0} → (D → Device) → Configuration → Backing D → Type 0
 IsBacking state c backing = IsStack c (leaves_in state backing) backing.cache
 
 -- ---- what any step leaves of it
 
--- the kept hash blocks are sound over the leaves that it leaves
+-- the kept blocks are sound over the leaves that it leaves
 abbrev pub StaysSound : {D : Type 0} → (D → Device) → Configuration → Backing D → Backing D → Type 0
 StaysSound state c old new = KeepsCache c (leaves_in state new) old.cache new.cache
 

@@ -1,9 +1,9 @@
--- A verity line with parity that has lost data blocks.
-use Rattle.std.specs.Prelude.{◌≡◌, ◌⊎◌, ℕ, ◌-◌, ◌*◌, ◌/◌, ◌%◌, List, [], ◌++◌, Some, Ok}
+-- A verity line with parity that has lost blocks.
+use Rattle.std.specs.Prelude.{◌≡◌, ◌≢◌, ◌⊎◌, ℕ, ◌+◌, ◌-◌, ◌*◌, ◌/◌, ◌%◌, ◌<◌, List, [], ◌++◌, Some, Ok}
 use Rattle.std.specs.List.{slice_index_or, concat}
 use Rattle.hash_tree.specs.Laws.{AreBlocks}
-use Rattle.hash_tree.specs.Tree.{root, area}
-use Rattle.tree_shape.specs.Shape.{area_blocks}
+use Rattle.hash_tree.specs.Tree.{root, area, level}
+use Rattle.tree_shape.specs.Shape.{ancestor, area_blocks, levels}
 use Rattle.dm_table.specs.declared.parity.Parity.{Parity}
 use Rattle.dm_table.specs.declared.table.Line.{Line}
 use Rattle.dm_table.specs.declared.verity.Verity.{Verity}
@@ -11,7 +11,7 @@ use Rattle.stack_rules.specs.Names.{mapped}
 use Rattle.stack_rules.specs.Records.{Configuration}
 use Rattle.stack_rules.specs.Rules.{IsLoaded}
 use Rattle.stack_rules.specs.Trees.{tree_of, block_sectors, round_count}
-use Rattle.stack_meaning.specs.Blocks.{hash_sectors}
+use Rattle.stack_meaning.specs.Blocks.{covered_hash, hash_sectors}
 use Rattle.stack_meaning.specs.Meaning.{sector}
 use Rattle.stack_meaning.specs.Outcomes.{Images, AreWhole, span}
 use Rattle.stack_meaning.specs.Spares.{BlockSources, IsFormerRound, IsWholeBeside, covered_block}
@@ -28,30 +28,52 @@ pub record IsTreeOnHash (c : Configuration) (images : Images) (v : Verity) (bloc
   pub on_hash : span (named_sector c images v.hash) (hash_sectors v * v.start) (hash_sectors v * area_blocks (tree_of v)) ≡ Ok (concat (area v.hash_block v.salt (verity_digests v blocks)))
   pub root_is : v.root ≡ root v.hash_block v.salt (verity_digests v blocks)
 
--- The parity of the round of data block i was made of the blocks that the round covers, of which block i is one. Block i is as it was,
--- or the other blocks of its round are and the round's parity is readable.
-pub record HasLostOne (v : Verity) (p : Parity) (from : BlockSources) (blocks : List (List ℕ)) (i : ℕ) : Type 0 where
-  pub former : ℕ → List ℕ
-  pub own : former i ≡ slice_index_or blocks i []
-  pub parity : List ℕ
-  pub round : IsFormerRound v p former (i % round_count p) parity
-  pub one : (covered_block v from i ≡ Ok (former i)) ⊎ IsWholeBeside v p from former i parity
+-- the hash block of level l of their tree, on the path to data block i
+abbrev pub tree_block : Verity → List (List ℕ) → ℕ → ℕ → List ℕ
+tree_block v blocks l i = slice_index_or (level v.hash_block v.salt (verity_digests v blocks) l) (ancestor (tree_of v) (l + 1) i) []
 
--- the line has this parity, its tree is whole, and of the round of data block i at most one block is lost
+-- The parity of the round of covered block j was made of the blocks that the round covers, of which block j is that one. The other
+-- blocks of the round are as they were, and its parity is readable.
+pub record IsRestorable (v : Verity) (p : Parity) (from : BlockSources) (block : List ℕ) (j : ℕ) : Type 0 where
+  pub former : ℕ → List ℕ
+  pub own : former j ≡ block
+  pub parity : List ℕ
+  pub round : IsFormerRound v p former (j % round_count p) parity
+  pub whole : IsWholeBeside v p from former j parity
+
+-- covered block j is as it was, or the only lost one of its round
+abbrev pub HasLostOne : Verity → Parity → BlockSources → List ℕ → ℕ → Type 0
+HasLostOne v p from block j = (covered_block v from j ≡ Ok block) ⊎ IsRestorable v p from block j
+
+-- The line has this parity and the root of the tree of the blocks. Of the rounds of data block i and of each hash block on the path to
+-- it at most one block is lost.
 pub record IsDamaged (c : Configuration) (images : Images) (v : Verity) (p : Parity) (blocks : List (List ℕ)) (i : ℕ) : Type 0 where
   pub has : v.parity ≡ Some p
-  pub tree : IsTreeOnHash c images v blocks
-  pub lost : HasLostOne v p (line_sources c images v) blocks i
+  pub sized : AreBlocks v.blocks v.data_block blocks
+  pub root_is : v.root ≡ root v.hash_block v.salt (verity_digests v blocks)
+  pub block : HasLostOne v p (line_sources c images v) (slice_index_or blocks i []) i
+  pub path : (l : ℕ) → l < levels (tree_of v) → HasLostOne v p (line_sources c images v) (tree_block v blocks l i) (covered_hash v l (ancestor (tree_of v) (l + 1) i))
 
 -- another block has the digest of this one
 pub record BlockCollides (v : Verity) (block : List ℕ) : Type 0 where
   pub other : List ℕ
   pub collision : IsSha256Collision (v.salt ++ other) (v.salt ++ block)
 
--- a sector of such a line, in data block i, is as it was, or block i is one of two different inputs of one digest
+-- it is lost where it is covered block j
+pub record LostCollides (v : Verity) (from : BlockSources) (block : List ℕ) (j : ℕ) : Type 0 where
+  pub lost : covered_block v from j ≢ Ok block
+  pub collides : BlockCollides v block
+
+-- such a block is data block i, or a hash block on the path to it
+abbrev pub PathCollides : Configuration → Images → Verity → List (List ℕ) → ℕ → Type 0
+PathCollides c images v blocks i =
+    LostCollides v (line_sources c images v) (slice_index_or blocks i []) i
+    ⊎ ((l : ℕ) × (l < levels (tree_of v)) × LostCollides v (line_sources c images v) (tree_block v blocks l i) (covered_hash v l (ancestor (tree_of v) (l + 1) i)))
+
+-- a sector of such a line, in data block i, is as it was, or a lost block on its path is one of two different inputs of one digest
 abbrev pub DamagedDataIsRead : Type 0
 DamagedDataIsRead = (c : Configuration) → IsLoaded c → (images : Images) → AreWhole images
     → (d s l : ℕ) (line : Line) (v : Verity) → LiesInVerity c d s l line v
     → (p : Parity) (blocks : List (List ℕ)) → IsDamaged c images v p blocks ((s - line.start) / block_sectors v)
     → (sector c images (mapped d) s ≡ Ok (formatted_sector v blocks (s - line.start)))
-    ⊎ BlockCollides v (slice_index_or blocks ((s - line.start) / block_sectors v) [])
+    ⊎ PathCollides c images v blocks ((s - line.start) / block_sectors v)

@@ -1,5 +1,5 @@
--- A data block, and its spare where the block's own read ended in a fault.
-use Rattle.std.specs.Prelude.{◌≡◌, ℕ, Bool, true, false, IsTrue, Option, None, is_some, Result, Ok, Err}
+-- A block, and its spare where the block's own read ended in a fault.
+use Rattle.std.specs.Prelude.{◌≡◌, ℕ, Bool, false, IsTrue, Option, None, is_some, Result, Ok, Err}
 use Rattle.dm_table.specs.declared.parity.Parity.{Parity}
 use Rattle.dm_table.specs.declared.verity.Verity.{Verity}
 use Rattle.stack_rules.specs.Records.{Configuration}
@@ -12,10 +12,10 @@ use Rattle.stack_meaning.specs.declared.fault.IoFault.TheVariants as io
 abbrev pub HasNoParity : Configuration → Type 0
 HasNoParity c = (d l : ℕ) (v : Verity) → HasVerity c d l v → v.parity ≡ None
 
--- the spare of a block of a line with that parity is read after the block's own read ended in that fault: in one of the lines, or in
--- a device's if there is parity
+-- the spare of a block of a line with that parity is read after the block's own read ended in that fault: in one of the lines or in a
+-- device's, if there is parity
 abbrev pub can_heal : Option Parity → IoFault → Bool
-can_heal parity (io.Stack fault) = true
+can_heal parity (io.Stack fault) = is_some parity
 can_heal parity (io.Device i) = is_some parity
 can_heal parity io.NoMemory = false
 

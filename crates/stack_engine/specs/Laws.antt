@@ -1,5 +1,5 @@
 -- Laws of what a stack means and of what is answered.
-use Rattle.std.specs.Prelude.{◌≡◌, ◌≢◌, ◌↔◌, ℕ, ◌+◌, ◌-◌, ◌<◌, ◌*◌, ◌/◌, false, IsTrue, if◌then◌else◌, List, [], ◌++◌, map, All, Contains, Some, Result, Ok}
+use Rattle.std.specs.Prelude.{◌≡◌, ◌≢◌, ◌↔◌, ℕ, ◌+◌, ◌-◌, ◌<◌, ◌*◌, ◌/◌, false, IsTrue, if◌then◌else◌, List, [], ◌++◌, map, All, Contains, None, Some, Result, Ok}
 use Rattle.std.specs.List.{slice_index_or, concat}
 use Rattle.sha2.specs.Sha256.{sha256}
 use Rattle.hash_tree.specs.declared.difference.Place.{Place}
@@ -149,9 +149,9 @@ IgnoredBlocksCollide = (v : Verity) (block : List ℕ) → IsTrue (is_ignored v 
 
 -- ---- words for the kernel alone
 
--- the line without the words that say what the kernel does on corruption, and where it verifies
+-- the line without the words that say what the kernel does on corruption, where it verifies, and which key holds a signature
 abbrev pub without_kernel_words : Verity → Verity
-without_kernel_words v = record v { corruption = Fail; in_tasklet = false }
+without_kernel_words v = record v { corruption = Fail; in_tasklet = false; signature_key = None }
 
 abbrev pub target_without : Target → Target
 target_without (verity_target v) = verity_target (without_kernel_words v)

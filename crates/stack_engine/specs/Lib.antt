@@ -14,6 +14,7 @@ pub mod Bytes
 pub mod WritePieces
 pub mod Dirty
 pub mod Unrestored
+pub mod Held
 pub mod ReadSteps
 pub mod Spares
 pub mod WriteSteps

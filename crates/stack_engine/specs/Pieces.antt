@@ -1,5 +1,5 @@
--- Pieces of a read: at most 128 sectors, which one call answers.
-use Rattle.std.specs.Prelude.{◌≡◌, ◌⊎◌, ◌≤◌, ℕ, ◌*◌, List, [], Result, Ok, Err}
+-- Pieces of a read: at most 128 sectors, or into a slice at most 2,048, which one call answers.
+use Rattle.std.specs.Prelude.{◌≡◌, ◌⊎◌, ◌≤◌, ℕ, ◌*◌, ◌/◌, false, List, [], length, None, Result, Ok, Err}
 use Rattle.block_device.specs.Call.{Call, DeviceDoes}
 use Rattle.block_device.specs.Device.{Device}
 use Rattle.stack_rules.specs.Records.{Configuration}
@@ -16,20 +16,30 @@ use Rattle.stack_meaning.specs.Reading.{Ends, Answers, IsCertain, MeetVerity}
 use Rattle.stack_meaning.specs.Stops.{ReadStops}
 use Rattle.stack_lines.specs.declared.source.Source.TheVariants.{Below}
 use Rattle.stack_lines.specs.Budgets.{budget}
+use Rattle.stack_lines.specs.Caches.{StackCache, capacity_of, with_last}
 use Rattle.stack_lines.specs.Touches.{EndsAtFailure, TouchesOnly, leaves_of}
+use Rattle.stack_lines.specs.Writing.{AreSectors}
 use Rattle.stack_engine.specs.Healing.{HasNoParity}
 use Rattle.stack_engine.specs.LeafCalls.{LeafCall, ServesCalls}
 use Rattle.stack_engine.specs.SectorCalls.{AreReadCalls}
 use Rattle.stack_engine.specs.Stacks.{StackRecord, AnswerRecord}
-use Rattle.verified_cache.specs.Cache.{CacheRecord}
 
--- a configuration over its leaves' devices, with the hash blocks of a cache, after so many blocks were restored
-abbrev pub stack_with : Configuration → List Device → CacheRecord → ℕ → StackRecord
-stack_with config leaves cache restored = record { config = config; leaves = leaves; capacity = cache.capacity; kept = cache.blocks; restored = restored }
+-- a configuration over its leaves' devices, with the blocks of a cache, after so many blocks were restored
+abbrev pub stack_with : Configuration → List Device → StackCache → ℕ → StackRecord
+stack_with config leaves cache restored = record { config = config; leaves = leaves; capacity = capacity_of cache; kept = cache.blocks.blocks; last = cache.last; restored = restored }
 
--- with room for so many, of which none is kept; nothing was restored
+-- with room for so many hash blocks, of which none is kept, and for no data block; nothing was restored
 abbrev pub stack_over : Configuration → List Device → ℕ → StackRecord
-stack_over config leaves capacity = stack_with config leaves (record { capacity = capacity; blocks = [] }) 0
+stack_over config leaves capacity = record { config = config; leaves = leaves; capacity = record { blocks = capacity; last = false }; kept = []; last = None; restored = 0 }
+
+-- with room for a data block beside them
+abbrev pub stack_keeping : StackRecord → StackRecord
+stack_keeping w = record w { capacity = with_last w.capacity }
+
+-- the bytes of 1 to 2,048 whole sectors
+pub record AreReadSectors (bytes : List ℕ) : Type 0 where
+  pub sectors : AreSectors bytes
+  pub most : length bytes / 512 ≤ 2048
 
 -- the leaves beneath a mapped device are steady
 abbrev pub AreSteadyBeneath : StackRecord → ℕ → Type 0

@@ -1,6 +1,6 @@
 -- What the steps of a read say: of a source, from its first sector on; of a leaf or a device, from sector `first` on; and of blocks.
 -- They fill the buffer `out`, as it was before.
-use Rattle.std.specs.Prelude.{◌≡◌, ℕ, ◌*◌, ◌/◌, ◌<◌, Bool, IsTrue, List, Vec, Result, Ok, Err, is_ok, length, map, take, get_or}
+use Rattle.std.specs.Prelude.{◌≡◌, ℕ, ◌*◌, ◌/◌, ◌<◌, Bool, false, IsTrue, List, Option, Vec, Result, Ok, Err, is_ok, length, map, take, get_or}
 use Rattle.std.specs.Global.{Global}
 use Rattle.block_device.specs.Call.{Call}
 use Rattle.block_device.specs.Device.{Device}
@@ -11,7 +11,6 @@ use Rattle.stack_rules.specs.declared.lower.Lower.TheVariants.{Leaf}
 use Rattle.stack_rules.specs.Records.{Configuration}
 use Rattle.stack_rules.specs.Trees.{tree_of}
 use Rattle.stack_meaning.specs.declared.fault.IoFault.{IoFault}
-use Rattle.stack_meaning.specs.Blocks.{hash_sectors, hash_start}
 use Rattle.stack_meaning.specs.Found.{FoundRecord}
 use Rattle.stack_meaning.specs.Leaves.{AreRead}
 use Rattle.stack_meaning.specs.Meaning.{Said, said_at}
@@ -22,19 +21,20 @@ use Rattle.stack_lines.specs.declared.source.Source.TheVariants.{Below}
 use Rattle.stack_lines.specs.declared.tree.Extent.{Extent}
 use Rattle.stack_lines.specs.declared.tree.Tree.{Tree}
 use Rattle.stack_lines.specs.Budgets.{ReadsAtMost, budget, source_budget}
-use Rattle.stack_lines.specs.Caches.{KeepsCache}
+use Rattle.stack_lines.specs.Caches.{IsLastBlock, KeepsCache}
 use Rattle.stack_lines.specs.Sources.{source_said}
 use Rattle.stack_lines.specs.Touches.{AsksOnly, leaves_of, source_leaves}
-use Rattle.stack_lines.specs.Walks.{block_in, checked_expected, data_expected, GetsChain, IsWalked}
+use Rattle.stack_lines.specs.Walks.{block_in, checked_expected, data_expected, way_cost, way_expected, GetsChain, IsWalked}
 use Rattle.hash_tree.specs.Chain.{ChainRecord}
 use Rattle.verified_cache.specs.Cache.{CachedBlock}
 use Rattle.stack_engine.specs.declared.backing.Backing.{Backing}
 use Rattle.stack_engine.specs.declared.path.WantedBlock.{WantedBlock}
+use Rattle.stack_engine.specs.declared.path.WantedData.{WantedData}
 use Rattle.stack_engine.specs.Backings.{BackingRecord, backing_of, leaves_in, served}
 use Rattle.stack_engine.specs.Bytes.{GetsBytes}
 use Rattle.stack_engine.specs.Healing.{HasNoParity}
 use Rattle.stack_engine.specs.Premises.{CanRead}
-use Rattle.stack_engine.specs.SectorCalls.{DataPlace, DataRead, ExpectedBlock, LeadsTo, ReadOf, ReadsBy, data_of, expected_hash, hash_of, last_bytes, one_block, sectors_of, whole_data}
+use Rattle.stack_engine.specs.SectorCalls.{DataPlace, DataRead, ExpectedBlock, LeadsTo, ReadOf, ReadsBy, data_of, last_bytes, one_asked, sectors_of, way_of, whole_data}
 
 -- the buffer can be filled from the source, where those chains were found before
 abbrev pub CanFill : {D : Type 0} → (D → Device) → Configuration → Backing D → List FoundRecord → Source → List ℕ → Type 0
@@ -110,13 +110,22 @@ content_answer (Err fault) = Err fault
 abbrev pub expected_in : Extent → List ℕ → List ℕ → ExpectedBlock
 expected_in extent salt digest = record { extent = extent; salt = salt; digest = digest }
 
--- the data block of a place of which that digest is expected, after whatever hash block
-abbrev pub GivesData : {D : Type 0} → (D → Call → D → Type 0) → Configuration → DataPlace → List ℕ → Backing D → Backing D → Result (List ℕ) IoFault → Type 0
-GivesData does c p expected old new answer = (last : List ℕ) → ReadsOn does c (data_of p 0 expected last one_block) old new answer
+-- all of a block that is wanted
+abbrev pub all_of : WantedData → WantedData
+all_of wanted = record wanted { part = false }
+
+-- the data block of a place that is wanted, after whatever hash block
+abbrev pub GivesData : {D : Type 0} → (D → Call → D → Type 0) → Configuration → DataPlace → WantedData → Backing D → Backing D → Result (List ℕ) IoFault → Type 0
+GivesData does c p wanted old new answer = (last : List ℕ) → ReadsOn does c (data_of p 0 wanted.digest last (one_asked wanted.part)) old new answer
+
+-- a part alone is wanted of the data block that is kept, whose bytes are these
+pub record IsKeptData (tree : Tree) (wanted : WantedData) (last : Option CachedBlock) (bytes : List ℕ) : Type 0 where
+  pub part : IsTrue wanted.part
+  pub kept : IsLastBlock last (record { device = tree.device.0; line = tree.line; level = 0; block = wanted.block }) wanted.digest bytes
 
 -- the hash block on the way to a place, which is on the path; or the fault
 abbrev pub GivesOnWay : {D : Type 0} → (D → Call → D → Type 0) → Configuration → DataPlace → WantedBlock → List CachedBlock → Backing D → Backing D → Result Unit IoFault → Type 0
-GivesOnWay does c p wanted path old new result = (x : CachedBlock) → ReadsOn does c (hash_of (expected_hash p wanted.level wanted.digest)) old new (buffer_answer result ((get_or path wanted.at x).bytes))
+GivesOnWay does c p wanted path old new result = (x : CachedBlock) → ReadsOn does c (way_of p wanted.level wanted.digest) old new (buffer_answer result ((get_or path wanted.at x).bytes))
 
 -- The way to a place was walked: with the calls that read what is beneath it, whatever that is, all is read; or it ended by a fault.
 abbrev pub WalksTo : {D : Type 0} → (D → Call → D → Type 0) → Configuration → DataPlace → List CachedBlock → Backing D → Backing D → Result (List ℕ) IoFault → Type 0
@@ -150,8 +159,11 @@ abbrev pub data_wanted : Configuration → Verity → ℕ → List ℕ → Expec
 data_wanted c v index digest = data_expected (λ block. block.items) (block_in c v index) digest
 
 -- a hash block on the way to a data block
-abbrev pub way_wanted : Configuration → Verity → Tree → WantedBlock → Expected (List ℕ)
-way_wanted c v tree wanted = checked_expected (λ block. block) (place_of c tree.hash) (hash_start v wanted.level wanted.block) (hash_sectors v) v.salt wanted.digest
+abbrev pub hash_wanted : Configuration → Verity → WantedBlock → Expected (Vec ℕ Global)
+hash_wanted c v wanted = way_expected (λ block. block.items) (block_in c v wanted.block) wanted.level wanted.digest
+
+abbrev pub way_wanted : Configuration → Verity → WantedBlock → Expected (List ℕ)
+way_wanted c v wanted = way_expected (λ block. block) (block_in c v wanted.block) wanted.level wanted.digest
 
 -- the chain of a data block, or a fault
 abbrev pub ChainBy : {D : Type 0} → (D → Device) → Configuration → Verity → ℕ → Backing D → Backing D → Result ChainRecord IoFault → Type 0
@@ -161,6 +173,6 @@ ChainBy state c v index old new result = GetsChain (block_in c v index) (leaves_
 abbrev pub WalkedBy : {D : Type 0} → (D → Device) → Configuration → Verity → ℕ → List CachedBlock → Backing D → Backing D → List ℕ → Type 0
 WalkedBy state c v index path old new expected = IsWalked (block_in c v index) 0 expected (map (λ b. b.bytes) (take (levels (tree_of v)) path)) (leaves_in state old) (leaves_in state new)
 
--- at most all hash blocks on the way were read
+-- at most all hash blocks on the way were read, and their spares
 abbrev pub ReadsWay : {D : Type 0} → (D → Device) → Configuration → Verity → ℕ → Backing D → Backing D → Type 0
-ReadsWay state c v index old new = AreRead (leaves_in state old) (levels (tree_of v) * (hash_sectors v * (block_in c v index).on_hash.cost)) (leaves_in state new)
+ReadsWay state c v index old new = AreRead (leaves_in state old) (levels (tree_of v) * way_cost (block_in c v index)) (leaves_in state new)

@@ -1,7 +1,7 @@
 -- Which calls on the devices of leaves a read and a write of sectors make, whatever the devices answer: which sectors of which
 -- leaves, in which order, with which bytes, and none after the first that failed. A device is accessed by its longest runs,
 -- and a leaf by one call for each run.
-use Rattle.std.specs.Prelude.{◌≡◌, ℕ, zero, suc, ◌+◌, ◌-◌, ◌*◌, ◌/◌, ◌%◌, ◌<◌, ◌≤◌, ◌==◌, nat_lt, true, false, if◌then◌else◌, List, [], ◌∷◌, ◌++◌, length, take, drop, replicate, Option, Some, None, option_map, Result, Ok, Err, IfErr}
+use Rattle.std.specs.Prelude.{◌≡◌, ℕ, zero, suc, ◌+◌, ◌-◌, ◌*◌, ◌/◌, ◌%◌, ◌<◌, ◌≤◌, ◌==◌, nat_lt, Bool, true, false, if◌then◌else◌, List, [], ◌∷◌, ◌++◌, length, take, drop, replicate, Option, Some, None, option_map, Result, Ok, Err, IfErr}
 use Rattle.hash_tree.specs.Chain.{ChainRecord, IsGood}
 use Rattle.tree_shape.specs.Digests.{digest, digest_in}
 use Rattle.tree_shape.specs.Shape.{levels, slot, ancestor}
@@ -13,7 +13,7 @@ use Rattle.stack_rules.specs.declared.lower.Lower.TheVariants.{Leaf}
 use Rattle.stack_rules.specs.Names.{mapped}
 use Rattle.stack_rules.specs.Records.{Configuration}
 use Rattle.stack_rules.specs.Trees.{tree_of, block_sectors, round_count, zero_block}
-use Rattle.stack_meaning.specs.Blocks.{hash_sectors, hash_start, next_digest, is_ignored}
+use Rattle.stack_meaning.specs.Blocks.{covered_hash, hash_sectors, hash_start, next_digest, is_ignored}
 use Rattle.stack_meaning.specs.declared.fault.Fault.TheVariants as why
 use Rattle.stack_meaning.specs.declared.fault.IoFault.{IoFault}
 use Rattle.stack_meaning.specs.declared.fault.IoFault.TheVariants as io
@@ -68,7 +68,8 @@ pub record ExpectedBlock : Type 0 where
   pub salt : List ℕ
   pub digest : List ℕ
 
--- data block `index` of a `verity` line, and the devices of its data blocks, hash blocks and parity
+-- a block of a `verity` line, by its number among the covered blocks, which begin with the data blocks; and the devices of its data
+-- blocks, hash blocks and parity
 pub record DataPlace : Type 0 where
   pub verity : Verity
   pub on_data : Lower
@@ -85,6 +86,10 @@ place_at x index = record { verity = x.verity.now; on_data = x.data; on_hash = x
 abbrev pub next_place : DataPlace → DataPlace
 next_place p = record p { index = p.index + 1 }
 
+-- the hash block of level l on the way to it, as a covered block of the line
+abbrev pub hash_at : DataPlace → ℕ → DataPlace
+hash_at p l = record p { index = covered_hash p.verity l (ancestor (tree_of p.verity) (l + 1) p.index) }
+
 -- the hash block of level l on the way to it, and the data block
 abbrev pub expected_hash : DataPlace → ℕ → List ℕ → ExpectedBlock
 expected_hash p l expected = record { extent = record { lower = p.on_hash; first = hash_start p.verity l p.index; sectors = hash_sectors p.verity }; salt = p.verity.salt; digest = expected }
@@ -96,7 +101,7 @@ expected_data p expected = record { extent = record { lower = p.on_data; first =
 abbrev pub covered_at : DataPlace → ℕ → Extent
 covered_at p k = record { lower = if nat_lt k p.verity.blocks then p.on_data else p.on_hash; first = covered_start p.verity k; sectors = block_sectors p.verity }
 
--- the number of the covered block at position i of the round of data block j, unless that is block j, or there is none
+-- the number of the covered block at position i of the round of covered block j, unless that is block j, or there is none
 abbrev pub other_number : Parity → ℕ → ℕ → Option ℕ
 other_number q j i =
     if i == j / round_count q then None
@@ -120,10 +125,20 @@ parity_first p q = parity_start p.verity q (p.index % round_count q)
 abbrev pub block_part : VerityPart → ℕ → List ℕ → List ℕ
 block_part x n content = take (512 * n) (drop (512 * (x.first % block_sectors x.verity.now)) content)
 
--- what follows the hash blocks: the one data block; or so many data blocks, of which these bytes were read before
+-- what follows the hash blocks: the one data block; or a part of it alone; or so many data blocks, of which these bytes were read before
 pub data DataRead : Type 0 where
   one_block : DataRead
+  part_block : DataRead
   blocks_left : ℕ → List ℕ → DataRead
+
+-- what is read of one data block: a part of it alone, or all of it
+abbrev pub one_asked : Bool → DataRead
+one_asked true = part_block
+one_asked false = one_block
+
+-- n sectors of one
+abbrev pub asked_of : VerityPart → ℕ → DataRead
+asked_of x n = one_asked (nat_lt n (block_sectors x.verity.now))
 
 -- the last hash block of a path, if there is one
 abbrev pub last_bytes : List CachedBlock → List ℕ
@@ -143,14 +158,15 @@ pub record AreReadTogether (p : DataPlace) (last : List ℕ) (left many : ℕ) :
   pub known : (k : ℕ) → 0 < k → k < many → p.verity.ignore_zero_blocks ≡ true → 32 * (slot (tree_of p.verity) (ancestor (tree_of p.verity) 0 p.index) + k) + 32 ≤ length last
   pub used : (k : ℕ) → 0 < k → k < many → is_ignored p.verity (digest_after p last k) ≡ false
 
--- What is read: n sectors of a source; an expected block, or one that may be kept; what is beneath so many levels of hash blocks,
--- when a digest is expected of the next block, after a hash block of those bytes; so many data blocks from a place on, of which
--- those bytes were read before; the spare of a data block, of which a digest is expected; what is added to sums for it, from a
--- position of its round on.
+-- What is read: n sectors of a source; an expected block, or one that may be kept; the hash block of a level on the way to a data
+-- block, of which a digest is expected; what is beneath so many levels of hash blocks, when a digest is expected of the next block,
+-- after a hash block of those bytes; so many data blocks from a place on, of which those bytes were read before; the spare of a
+-- block, of which a digest is expected; what is added to sums for it, from a position of its round on.
 pub data ReadOf : Type 0 where
   sectors_of : Source → ℕ → ReadOf
   block_of : ExpectedBlock → ReadOf
   hash_of : ExpectedBlock → ReadOf
+  way_of : DataPlace → ℕ → List ℕ → ReadOf
   data_of : DataPlace → ℕ → List ℕ → List ℕ → DataRead → ReadOf
   blocks_of : DataPlace → ℕ → List ℕ → ReadOf
   spare_of : DataPlace → List ℕ → ReadOf
@@ -184,9 +200,9 @@ pub data ReadCalls (c : Configuration) : ReadOf → List LeafCall → ℕ → �
   -- of a data block of a `verity` line: from its chain, which was found before; from the block, which is read; or none, if the read
   -- ends by a fault, or memory runs out for what it gave
   chain_found : {from : ℕ} {x : VerityPart} (n : ℕ) (chain : ChainRecord) → chain.index ≡ x.first / block_sectors x.verity.now → IsGood (tree_of x.verity.now) x.verity.now.salt x.verity.now.root chain → ReadCalls c (sectors_of (Block x) n) [] from from (Ok (block_part x n chain.content))
-  data_read : {from to : ℕ} {x : VerityPart} {calls : List LeafCall} {content : List ℕ} (n : ℕ) → ReadCalls c (whole_data (place_at x (x.first / block_sectors x.verity.now)) one_block) calls from to (Ok content) → ReadCalls c (sectors_of (Block x) n) calls from to (Ok (block_part x n content))
-  data_unread : {from to : ℕ} {x : VerityPart} {calls : List LeafCall} {fault : IoFault} (n : ℕ) → ReadCalls c (whole_data (place_at x (x.first / block_sectors x.verity.now)) one_block) calls from to (Err fault) → ReadCalls c (sectors_of (Block x) n) calls from to (Err fault)
-  data_full : {from to : ℕ} {x : VerityPart} {calls : List LeafCall} {content : List ℕ} (n : ℕ) → ReadCalls c (whole_data (place_at x (x.first / block_sectors x.verity.now)) one_block) calls from to (Ok content) → ReadCalls c (sectors_of (Block x) n) calls from to (Err io.NoMemory)
+  data_read : {from to : ℕ} {x : VerityPart} {calls : List LeafCall} {content : List ℕ} (n : ℕ) → ReadCalls c (whole_data (place_at x (x.first / block_sectors x.verity.now)) (asked_of x n)) calls from to (Ok content) → ReadCalls c (sectors_of (Block x) n) calls from to (Ok (block_part x n content))
+  data_unread : {from to : ℕ} {x : VerityPart} {calls : List LeafCall} {fault : IoFault} (n : ℕ) → ReadCalls c (whole_data (place_at x (x.first / block_sectors x.verity.now)) (asked_of x n)) calls from to (Err fault) → ReadCalls c (sectors_of (Block x) n) calls from to (Err fault)
+  data_full : {from to : ℕ} {x : VerityPart} {calls : List LeafCall} {content : List ℕ} (n : ℕ) → ReadCalls c (whole_data (place_at x (x.first / block_sectors x.verity.now)) (asked_of x n)) calls from to (Ok content) → ReadCalls c (sectors_of (Block x) n) calls from to (Err io.NoMemory)
   -- of whole data blocks
   blocks_read : {from to : ℕ} {x : VerityPart} {n : ℕ} {calls : List LeafCall} {answer : Result (List ℕ) IoFault} → ReadCalls c (blocks_of (place_at x (x.first / block_sectors x.verity.now)) (n / block_sectors x.verity.now) []) calls from to answer → ReadCalls c (sectors_of (Blocks x) n) calls from to answer
   -- an expected block: its sectors, which have the digest; or they have another one, or can't be read; or memory runs out before it
@@ -194,21 +210,28 @@ pub data ReadCalls (c : Configuration) : ReadOf → List LeafCall → ℕ → �
   block_differs : {from to : ℕ} {x : ExpectedBlock} {calls : List LeafCall} {bytes : List ℕ} → ReadCalls c (sectors_of (Below x.extent.lower x.extent.first) x.extent.sectors) calls from to (Ok bytes) → (digest x.salt bytes ≡ x.digest → ⊥) → ReadCalls c (block_of x) calls from to (Err (io.Stack why.Mismatch))
   block_unread : {from to : ℕ} {x : ExpectedBlock} {calls : List LeafCall} {fault : IoFault} → ReadCalls c (sectors_of (Below x.extent.lower x.extent.first) x.extent.sectors) calls from to (Err fault) → ReadCalls c (block_of x) calls from to (Err fault)
   block_full : {from : ℕ} (x : ExpectedBlock) → ReadCalls c (block_of x) [] from from (Err io.NoMemory)
-  -- a hash block: a kept one, which has the digest, or it is read; or memory runs out before it or after it
+  -- a hash block: one that is kept or on the path, which has the digest, or it is read; or memory runs out before it
   hash_kept : {from : ℕ} (x : ExpectedBlock) (bytes : List ℕ) → IsBlockOfDigest x.extent.sectors x.salt x.digest bytes → ReadCalls c (hash_of x) [] from from (Ok bytes)
   hash_full : {from : ℕ} (x : ExpectedBlock) → ReadCalls c (hash_of x) [] from from (Err io.NoMemory)
-  hash_lost : {from to : ℕ} {x : ExpectedBlock} {calls : List LeafCall} {bytes : List ℕ} → ReadCalls c (hash_of x) calls from to (Ok bytes) → ReadCalls c (hash_of x) calls from to (Err io.NoMemory)
   hash_read : {from to : ℕ} {x : ExpectedBlock} {calls : List LeafCall} {answer : Result (List ℕ) IoFault} → ReadCalls c (block_of x) calls from to answer → ReadCalls c (hash_of x) calls from to answer
+  -- a hash block on the way to data: it; and if that ends in a fault that is healed, its spare is read; or memory runs out after it
+  way_had : {from to : ℕ} {p : DataPlace} {l : ℕ} {expected : List ℕ} {calls : List LeafCall} {answer : Result (List ℕ) IoFault} → IfErr answer (IsSettled p.verity.parity) → ReadCalls c (hash_of (expected_hash p l expected)) calls from to answer → ReadCalls c (way_of p l expected) calls from to answer
+  way_healed : {from mid to : ℕ} {p : DataPlace} {l : ℕ} {expected : List ℕ} {calls later : List LeafCall} {fault : IoFault} {spare : Result (List ℕ) IoFault} → IsHealed p.verity.parity fault → ReadCalls c (hash_of (expected_hash p l expected)) calls from mid (Err fault) → ReadCalls c (spare_of (hash_at p l) expected) later mid to spare
+      → ReadCalls c (way_of p l expected) (calls ++ later) from (restored_after spare to) (healed_result fault spare)
+  way_lost : {from to : ℕ} {p : DataPlace} {l : ℕ} {expected : List ℕ} {calls : List LeafCall} {bytes : List ℕ} → ReadCalls c (way_of p l expected) calls from to (Ok bytes) → ReadCalls c (way_of p l expected) calls from to (Err io.NoMemory)
   -- the way to data: the next hash block, and then what is beneath it, by the digest in it
-  way_down : {from mid to : ℕ} {p : DataPlace} {l : ℕ} {expected last block : List ℕ} {next : DataRead} {calls later : List LeafCall} {answer : Result (List ℕ) IoFault} → ReadCalls c (hash_of (expected_hash p l expected)) calls from mid (Ok block) → ReadCalls c (data_of p l (next_digest p.verity l p.index block) block next) later mid to answer
+  way_down : {from mid to : ℕ} {p : DataPlace} {l : ℕ} {expected last block : List ℕ} {next : DataRead} {calls later : List LeafCall} {answer : Result (List ℕ) IoFault} → ReadCalls c (way_of p l expected) calls from mid (Ok block) → ReadCalls c (data_of p l (next_digest p.verity l p.index block) block next) later mid to answer
       → ReadCalls c (data_of p (suc l) expected last next) (calls ++ later) from to answer
-  way_stops : {from to : ℕ} {p : DataPlace} {l : ℕ} {expected : List ℕ} (last : List ℕ) (next : DataRead) {calls : List LeafCall} {fault : IoFault} → ReadCalls c (hash_of (expected_hash p l expected)) calls from to (Err fault) → ReadCalls c (data_of p (suc l) expected last next) calls from to (Err fault)
+  way_stops : {from to : ℕ} {p : DataPlace} {l : ℕ} {expected : List ℕ} (last : List ℕ) (next : DataRead) {calls : List LeafCall} {fault : IoFault} → ReadCalls c (way_of p l expected) calls from to (Err fault) → ReadCalls c (data_of p (suc l) expected last next) calls from to (Err fault)
   way_full : {from : ℕ} (p : DataPlace) (l : ℕ) (expected last : List ℕ) (next : DataRead) → ReadCalls c (data_of p l expected last next) [] from from (Err io.NoMemory)
   -- the one data block: zeros, if the line ignores it, or it is read; and if that ends in a fault that is healed, its spare is read
   one_ignored : {from : ℕ} (p : DataPlace) (expected last : List ℕ) → is_ignored p.verity expected ≡ true → ReadCalls c (data_of p zero expected last one_block) [] from from (Ok (zero_block p.verity))
   one_read : {from to : ℕ} {p : DataPlace} {expected : List ℕ} (last : List ℕ) {calls : List LeafCall} {answer : Result (List ℕ) IoFault} → is_ignored p.verity expected ≡ false → IfErr answer (IsSettled p.verity.parity) → ReadCalls c (block_of (expected_data p expected)) calls from to answer → ReadCalls c (data_of p zero expected last one_block) calls from to answer
   one_healed : {from mid to : ℕ} {p : DataPlace} {expected : List ℕ} (last : List ℕ) {calls later : List LeafCall} {fault : IoFault} {spare : Result (List ℕ) IoFault} → is_ignored p.verity expected ≡ false → IsHealed p.verity.parity fault → ReadCalls c (block_of (expected_data p expected)) calls from mid (Err fault) → ReadCalls c (spare_of p expected) later mid to spare
       → ReadCalls c (data_of p zero expected last one_block) (calls ++ later) from (restored_after spare to) (healed_result fault spare)
+  -- a part of a data block: of the kept one, which has the digest and isn't ignored; or as of all of it
+  one_kept : {from : ℕ} (p : DataPlace) {expected : List ℕ} (last bytes : List ℕ) → is_ignored p.verity expected ≡ false → IsBlockOfDigest (block_sectors p.verity) p.verity.salt expected bytes → ReadCalls c (data_of p zero expected last part_block) [] from from (Ok bytes)
+  one_fetched : {from to : ℕ} {p : DataPlace} {expected last : List ℕ} {calls : List LeafCall} {answer : Result (List ℕ) IoFault} → ReadCalls c (data_of p zero expected last one_block) calls from to answer → ReadCalls c (data_of p zero expected last part_block) calls from to answer
   -- whole data blocks, the next of which was read before: it is ignored, or has the digest, or differs and its spare is read, and
   -- those after it are read; or it differs, and its spare can't be read
   next_ignored : {from to : ℕ} {p : DataPlace} {left : ℕ} {expected ahead : List ℕ} (last : List ℕ) {calls : List LeafCall} {answer : Result (List ℕ) IoFault} → is_ignored p.verity expected ≡ true → ReadCalls c (blocks_of (next_place p) left (drop p.verity.data_block ahead)) calls from to answer
@@ -226,7 +249,7 @@ pub data ReadCalls (c : Configuration) : ReadOf → List LeafCall → ℕ → �
   blocks_end : {from : ℕ} (p : DataPlace) (ahead : List ℕ) → ReadCalls c (blocks_of p zero ahead) [] from from (Ok [])
   blocks_next : {from to : ℕ} {p : DataPlace} {left : ℕ} {ahead : List ℕ} {calls : List LeafCall} {answer : Result (List ℕ) IoFault} → ReadCalls c (whole_data p (blocks_left (suc left) ahead)) calls from to answer → ReadCalls c (blocks_of p (suc left) ahead) calls from to answer
   blocks_full : {from : ℕ} (p : DataPlace) (left : ℕ) (ahead : List ℕ) → ReadCalls c (blocks_of p left ahead) [] from from (Err io.NoMemory)
-  -- the spare of a data block: none without parity, or if memory runs out before it; or the sum of the other blocks of its round and of their parity, if it is read and has the digest
+  -- the spare of a block: none without parity, or if memory runs out before it; or the sum of the other blocks of its round and of their parity, if it is read and has the digest
   spare_none : {from : ℕ} (p : DataPlace) (expected : List ℕ) → p.verity.parity ≡ None → ReadCalls c (spare_of p expected) [] from from (Err (io.Stack why.Mismatch))
   spare_full : {from : ℕ} (p : DataPlace) (expected : List ℕ) → ReadCalls c (spare_of p expected) [] from from (Err io.NoMemory)
   spare_checked : {from to : ℕ} {p : DataPlace} {q : Parity} {expected bytes : List ℕ} {calls : List LeafCall} → p.verity.parity ≡ Some q → ReadCalls c (sums_of p q 0 (zero_block p.verity)) calls from to (Ok bytes) → digest p.verity.salt bytes ≡ expected → ReadCalls c (spare_of p expected) calls from to (Ok bytes)

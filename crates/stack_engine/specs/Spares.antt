@@ -1,4 +1,4 @@
--- What the steps of a read of a data block's spare say: of a position of its round, of the round's parity, and of the whole.
+-- What the steps of a read of a block's spare say: of a position of its round, of the round's parity, and of the whole.
 use Rattle.std.specs.Prelude.{◌≡◌, ◌⊎◌, ℕ, suc, ◌+◌, ◌*◌, ◌/◌, ◌%◌, ◌==◌, ◌≤◌, true, false, if◌then◌else◌, List, ◌∷◌, [], length, replicate, Vec, Some, Result, Ok, Err}
 use Rattle.std.specs.Global.{Global}
 use Rattle.block_device.specs.Call.{Call}
@@ -25,7 +25,7 @@ use Rattle.stack_engine.specs.ReadSteps.{GetsBy, ReadsOn, block_answer}
 use Rattle.stack_engine.specs.Restored.{Served, after_spare}
 use Rattle.stack_engine.specs.SectorCalls.{DataPlace, LeadsTo, ReadsBy, parity_first, spare_of, sums_of}
 
--- the parity of the round of a data block is stored there, inside its device
+-- the parity of the round of a covered block is stored there, inside its device
 pub record IsStoredAt (c : Configuration) (p : DataPlace) (q : Parity) (at : Stored) : Type 0 where
   pub on : p.on_parity ≡ Some at.lower
   pub first : at.first ≡ parity_first p q
@@ -60,7 +60,7 @@ stored_wanted b q sums = record {
   agrees = AgreesAt b;
 }
 
--- the spare of a data block of a line
+-- the spare of a covered block of a line
 abbrev pub spare_wanted : Configuration → Verity → LostBlock → Expected (List ℕ)
 spare_wanted c v lost = spare_expected (λ bytes. bytes) (block_in c v lost.index) lost.digest
 
@@ -69,7 +69,7 @@ abbrev pub AddsTo : {D : Type 0} → (D → Call → D → Type 0) → Configura
 AddsTo does c p q i sums old new (Ok added) = LeadsTo does c (sums_of p q i sums) (sums_of p q (suc i) added) (served old) (served new)
 AddsTo does c p q i sums old new (Err fault) = ReadsOn does c (sums_of p q i sums) old new (Err fault)
 
--- A data block whose own read ended in that fault is healed: its spare, which is counted, and the calls that read it; or the fault.
+-- A block whose own read ended in that fault is healed: its spare, which is counted, and the calls that read it; or the fault.
 pub record HealsBy {D : Type 0} (state : D → Device) (does : D → Call → D → Type 0) (c : Configuration) (p : DataPlace) (lost : LostBlock) (fault : IoFault) (old new : Backing D) (result : Result (Vec ℕ Global) IoFault) : Type 0 where
   pub spare : Result (Vec ℕ Global) IoFault
   pub is : result ≡ healed_result fault spare

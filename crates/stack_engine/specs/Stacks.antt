@@ -1,20 +1,21 @@
 -- A stack and the answer of a read, as contracts see them.
-use Rattle.std.specs.Prelude.{ℕ, List}
+use Rattle.std.specs.Prelude.{ℕ, List, Option}
 use Rattle.block_device.specs.Device.{Device}
 use Rattle.stack_rules.specs.Records.{Configuration}
 use Rattle.stack_rules.specs.Rules.{IsLoaded}
 use Rattle.stack_meaning.specs.Found.{FoundRecord}
 use Rattle.stack_meaning.specs.Leaves.{ServeLeaves}
-use Rattle.stack_lines.specs.Caches.{StackCache, IsCacheOf}
+use Rattle.stack_lines.specs.Caches.{Capacity, StackCache, IsCacheOf}
 use Rattle.verified_cache.specs.Cache.{CachedBlock}
 
--- a configuration, the devices of its leaves in order, how many hash blocks may be kept, those that are, the most
--- recently used first, and how many data blocks reads restored
+-- a configuration, the devices of its leaves in order, how many blocks may be kept, the hash blocks that are, the
+-- most recently used first, the data block that is kept, and how many blocks reads restored
 pub record StackRecord : Type 0 where
   pub config : Configuration
   pub leaves : List Device
-  pub capacity : ℕ
+  pub capacity : Capacity
   pub kept : List CachedBlock
+  pub last : Option CachedBlock
   pub restored : ℕ
 
 -- what holds of every stack, whatever its devices answer

@@ -14,7 +14,7 @@ use Rattle.stack_meaning.specs.Leaves.{steady_images, AreSteady}
 use Rattle.stack_meaning.specs.Changes.{LeafSectors, reached, AreWritten, NoneRead, DifferWithin, AllWhole}
 use Rattle.stack_lines.specs.Writing.{AreSectors, SomeEncrypt, MayEnd, IsPut, destination_of, StopsAtFault, StopsBehindPut, sectors_in}
 use Rattle.stack_lines.specs.Touches.{EndsAtFailure, leaves_of}
-use Rattle.stack_lines.specs.Forgetting.{Forgets}
+use Rattle.stack_lines.specs.Forgetting.{DropsLast, Forgets}
 use Rattle.stack_lines.specs.WriteBudgets.{Counter, of_reads, of_writes, CountsAtMost, write_budget}
 use Rattle.stack_lines.specs.declared.source.Source.TheVariants.{Below}
 use Rattle.stack_engine.specs.LeafCalls.{LeafCall, ServesCalls}
@@ -62,8 +62,9 @@ pub record AnyWrite (w : StackRecord) (d first : ℕ) (bytes : List ℕ) (result
   pub stops : StopsAtFault (said_at w.config (mapped d)) first (length bytes / 512) w.leaves w'.leaves result
   pub unread : (SomeEncrypt (said_at w.config (mapped d)) first (length bytes / 512) → ⊥) → NoneRead w.leaves w'.leaves
   pub forgets : Forgets w.config (leaves_of w.config (mapped d)) w.leaves w'.leaves w.kept w'.kept
+  pub drops : DropsLast w.leaves w'.leaves w.last w'.last
   pub fails : EndsAtFailure w.leaves w'.leaves result
-  pub short : result ≡ Err io.NoMemory → w'.kept ≡ w.kept
+  pub short : result ≡ Err io.NoMemory → (w'.kept ≡ w.kept) × (w'.last ≡ w.last)
 
 -- If the leaves beneath are steady: what the put leaves, no leaf sector that isn't reached is changed, and what is before the
 -- sectors that failed is put.

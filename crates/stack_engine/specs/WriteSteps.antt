@@ -9,7 +9,7 @@ use Rattle.stack_meaning.specs.declared.fault.IoFault.{IoFault}
 use Rattle.stack_meaning.specs.Changes.{NoneRead}
 use Rattle.stack_lines.specs.declared.source.Source.{Source}
 use Rattle.stack_lines.specs.Caches.{KeepsCache}
-use Rattle.stack_lines.specs.Forgetting.{Forgets}
+use Rattle.stack_lines.specs.Forgetting.{DropsLast, Forgets}
 use Rattle.stack_lines.specs.Touches.{leaves_of, source_leaves}
 use Rattle.stack_lines.specs.WriteBudgets.{Counter, CountsAtMost, write_budget, source_write_budget}
 use Rattle.stack_lines.specs.Writing.{sectors_in, destination_of, WritesSectors, source_destination}
@@ -41,13 +41,15 @@ write_beneath c lower first n = record { cuts_none = CutsNone c lower first n; m
 
 -- What a write leaves, whatever it answers. No more is read or written than what it costs, nothing is read if no unit is cut, and
 -- nothing is restored.
--- Kept hash blocks stay sound, and are forgotten only of lines whose hash device is one of these leaves or is stacked on one.
+-- Kept hash blocks stay sound, and are forgotten only of lines whose hash device is one of these leaves or is stacked on one. The data
+-- block that is kept is dropped if a leaf is written.
 pub record IsWriteStep (c : Configuration) (run : WriteRun) (old new : BackingRecord) : Type 0 where
   pub uncut : run.cuts_none → NoneRead old.leaves new.leaves
   pub paid : (k : Counter) → CountsAtMost k (run.most k) old.leaves new.leaves
   pub cached : KeepsCache c new.leaves old.cache new.cache
   pub uncounted : new.restored ≡ old.restored
   pub forgets : Forgets c run.leaves old.leaves new.leaves old.cache.blocks.blocks new.cache.blocks.blocks
+  pub drops : DropsLast old.leaves new.leaves old.cache.last new.cache.last
 
 -- ---- to a source
 

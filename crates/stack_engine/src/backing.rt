@@ -3,7 +3,7 @@ use block_device::BlockDev;
 use stack_lines::Cache;
 use std::alloc::Global;
 
-/// The devices of the leaves in order, the hash blocks that are kept, how many data blocks were restored, and the allocator, which
+/// The devices of the leaves in order, the blocks that are kept, how many blocks were restored, and the allocator, which
 /// reads and writes use.
 #[derive(Drop)]
 pub(crate) struct Backing<D: BlockDev> {

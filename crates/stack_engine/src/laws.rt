@@ -17,9 +17,9 @@ pub fn formatted_data_is_read()
     formed_chains_are_good();
 }
 
-/// If a line has parity, its tree is whole and the round of a data block has lost at most one block, a sector of that block is as
-/// it was, even if the block is the lost one; or another block has the digest of that one, and the two, each after the salt, are
-/// two different inputs of one SHA-256 digest.
+/// If a line has parity, and the round of a data block and those of the hash blocks on its path have lost at most one block each, a
+/// sector of that block is as it was, even if blocks on its path are lost; or another block has the digest of a lost one, and the two,
+/// each after the salt, are two different inputs of one SHA-256 digest.
 pub fn damaged_data_is_read()
     ensures { DamagedDataIsRead }
 {
@@ -44,8 +44,9 @@ pub fn ignored_blocks_collide()
 {}
 
 /// A `verity` line has the rules and costs of the line without the words that say what the kernel does on corruption
-/// (`restart_on_corruption`, `panic_on_corruption`) and where it verifies (`try_verify_in_tasklet`). A sector of it means the
-/// same, and may have the same bytes with the same chains, and the same faults, whatever the leaves return.
+/// (`restart_on_corruption`, `panic_on_corruption`), where it verifies (`try_verify_in_tasklet`), and which key holds the signature
+/// of the root hash (`root_hash_sig_key_desc`). A sector of it means the same, and may have the same bytes with the same chains,
+/// and the same faults, whatever the leaves return.
 pub fn kernel_words_change_no_line()
     ensures { KernelWordsChangeNoLine }
 {}

@@ -5,6 +5,7 @@ mod answer;
 mod backing;
 mod buffer;
 mod counters;
+mod kept_data;
 pub mod laws;
 mod leaf;
 mod path;

@@ -39,6 +39,14 @@ pub(crate) struct WantedBlock {
     pub(crate) digest: Digest,
 }
 
+/// A data block, by its number: the digest that is expected of it, and whether a part of it alone is read.
+#[derive(Clone, Copy)]
+pub(crate) struct WantedData {
+    pub(crate) block: u64,
+    pub(crate) digest: Digest,
+    pub(crate) part: bool,
+}
+
 /// Whether the path has that block at that index, checked by that digest.
 pub(crate) fn stands(path: &[PathBlock], at: usize, key: Key, digest: &Digest) -> bool
     ensures { IsTrue result → (at < length path.now) × ((x : CachedBlock) → ((get_or path.now at x).key ≡ key) × ((get_or path.now at x).digest ≡ digest.now)) }

@@ -1,5 +1,5 @@
 //! Reads through the lines of a stack, down to its leaves.
-ghost use Rattle.std.specs.Prelude.{◌≡◌, ◌≤◌, ◌<◌, ◌+◌, ◌-◌, ◌*◌, ◌/◌, ◌%◌, length, map, take, get_or, All, OnOk, IfOk, IfErr, Some, Err};
+ghost use Rattle.std.specs.Prelude.{◌≡◌, false, ◌≤◌, ◌<◌, ◌+◌, ◌-◌, ◌*◌, ◌/◌, ◌%◌, length, map, take, get_or, All, OnOk, IfOk, IfErr, Some, Err};
 ghost use Rattle.block_device.specs.Call.{DeviceDoes};
 ghost use Rattle.tree_shape.specs.Shape.{levels};
 ghost use Rattle.dm_table.specs.declared.parity.Parity.{Parity};
@@ -10,19 +10,22 @@ ghost use Rattle.stack_meaning.specs.Reading.{buffer_answer};
 ghost use Rattle.stack_lines.specs.Extents.{LiesInsideLower};
 ghost use Rattle.stack_lines.specs.Touches.{leaves_of};
 ghost use Rattle.stack_engine.specs.Healing.{HealsFault};
-ghost use Rattle.stack_lines.specs.Walks.{HasDataBlock, block_in};
-ghost use Rattle.stack_lines.specs.Caches.{IsCached, IsPlaceOf};
+ghost use Rattle.stack_lines.specs.Walks.{HasDataBlock, HasVerifiedBlock, block_in};
+ghost use Rattle.stack_lines.specs.Caches.{IsPlaceOf, hash_stored};
+ghost use Rattle.stack_meaning.specs.Blocks.{is_ignored};
 ghost use Rattle.verified_cache.specs.Cache.{CachedBlock};
 ghost use Rattle.stack_engine.specs.Backings.{leaves_in, IsBacking, Asks, StaysSound, did};
-ghost use Rattle.stack_engine.specs.SectorCalls.{block_of, hash_of, one_block, place_in, spare_of, sums_of, whole_data};
-ghost use Rattle.stack_engine.specs.ReadSteps.{CanFill, StepFrom, StepAt, ReadsOn, GivesFrom, GivesAt, GivesAny, GivesData, GivesOnWay, WalksTo, GotAt, GetsBy, extent_wanted, data_wanted, way_wanted, ChainBy, WalkedBy, ReadsWay, expected_in, block_answer, content_answer};
+ghost use Rattle.stack_engine.specs.SectorCalls.{block_of, hash_of, one_asked, place_in, spare_of, sums_of, way_of, whole_data};
+ghost use Rattle.stack_engine.specs.ReadSteps.{all_of, CanFill, StepFrom, StepAt, ReadsOn, GivesFrom, GivesAt, GivesAny, GivesData, GivesOnWay, WalksTo, GotAt, GetsBy, extent_wanted, data_wanted, hash_wanted, way_wanted, ChainBy, WalkedBy, ReadsWay, expected_in, block_answer, content_answer};
 ghost use Rattle.stack_engine.specs.Spares.{AddsTo, HealsBy, SettlesBy, other_wanted, spare_wanted, stored_wanted};
 ghost use Rattle.stack_engine.specs.Keeping.{ReadsAs, ReadsSourceAs};
+ghost use Rattle.stack_engine.specs.Held.{IsHeld};
 
 use crate::backing::Backing;
 use crate::buffer::{fill_zeros, zero_block, zero_sectors};
+use crate::kept_data::kept_data;
 use crate::leaf::read_leaf;
-use crate::path::{Chains, PathBlock, WantedBlock, put, stands};
+use crate::path::{Chains, PathBlock, WantedBlock, WantedData, put, stands};
 use crate::rows::{JudgedBlock, NextBlock, judge, read_as_far, row_len, settle};
 use crate::spare::{
     LostBlock, add_block, add_stored, can_heal, one_more, other_extent, stored_extent, unhealed,
@@ -33,7 +36,8 @@ use dm_table::Verity;
 use hash_tree::{Chain, digest_blocks};
 use stack_config::{Config, DevId, Lower};
 use stack_lines::tree::{
-    Extent, Tree, copy_part, data_extent, find, hash_extent, hash_key, is_ignored, tree_of,
+    Extent, Tree, copy_part, data_extent, data_key, find, hash_extent, hash_key, hash_number,
+    is_ignored, tree_of,
 };
 use stack_lines::units::{MOST, decrypt, take_sectors, unit_at, whole_unit};
 use stack_lines::{CryptPart, Source, VerityPart, run_to_read};
@@ -189,7 +193,8 @@ fn read_block<D: BlockDev>(
         }
         None => {
             let tree = tree_of(config, &part);
-            match walk(config, backing, verity, &tree, index) {
+            let is_part = (out.len() as u64 / 512) < sectors;
+            match walk(config, backing, verity, &tree, index, is_part) {
                 Err(fault) => Err(fault),
                 Ok(chain) => {
                     let at = found.len();
@@ -234,7 +239,7 @@ fn read_blocks<D: BlockDev>(
     let size = verity.data_block as usize;
     let first = part.first / u64::from(verity.data_block / 512);
     let count = out.len() / size;
-    let mut room = [Digest::new([0; Digest::SIZE]); 128];
+    let mut room = [Digest::new([0; Digest::SIZE]); 2048];
     let made = room.as_mut_slice();
     let mut path = Vec::new(backing.alloc);
     let mut read = 0;
@@ -309,7 +314,8 @@ fn read_beneath<D: BlockDev>(
     )
 }
 
-/// The chain of a data block, from the root down to the first block that has another digest.
+/// The chain of a data block, from the root down to the first block that has another digest. If a part of the data block alone is
+/// read, the block that is kept may be used.
 #[cycle(read)]
 fn walk<D: BlockDev>(
     config: &Config,
@@ -317,22 +323,27 @@ fn walk<D: BlockDev>(
     verity: &Verity,
     tree: &Tree,
     index: u64,
+    part: bool,
 ) -> Result<Chain, IoFault>
     requires stack { IsBacking D.state config.now backing.old }
     requires block { HasDataBlock config.now verity.now tree.now index }
     ensures reads { ChainBy D.state config.now verity.now index backing.old backing.new result }
     ensures cached { StaysSound D.state config.now backing.old backing.new }
     ensures touches { Asks D.state config.now (leaves_of config.now (mapped tree.now.device.0)) backing.old backing.new result }
-    ensures given { ReadsOn (DeviceDoes D.state D.does) config.now (whole_data (place_in verity.now tree.now index) one_block) backing.old backing.new (content_answer result) }
+    ensures given { ReadsOn (DeviceDoes D.state D.does) config.now (whole_data (place_in verity.now tree.now index) (one_asked part)) backing.old backing.new (content_answer result) }
 {
     let mut expected = verity.root;
     let mut path: Vec<Vec<u8>> = Vec::new(backing.alloc);
     let mut level = tree.shape.levels();
     while level > 0 {
         level -= 1;
-        let extent = hash_extent(config, verity, tree, level, index);
-        let key = hash_key(tree, level, index);
-        match hash_block(config, backing, key, extent, &verity.salt, &expected) {
+        let wanted = WantedBlock {
+            at: path.len(),
+            level,
+            block: index,
+            digest: expected,
+        };
+        match way_block(config, backing, verity, tree, &wanted) {
             Err(first) => return Err(first),
             Ok(block) => {
                 expected = digest_in(block.as_slice(), tree.shape.slot_on_path(level, index));
@@ -343,7 +354,12 @@ fn walk<D: BlockDev>(
             }
         }
     }
-    match read_data(config, backing, verity, tree, index, &expected) {
+    let wanted = WantedData {
+        block: index,
+        digest: expected,
+        part,
+    };
+    match read_data(config, backing, verity, tree, &wanted) {
         Err(fault) => Err(fault),
         Ok(content) => Ok(Chain {
             index,
@@ -353,38 +369,69 @@ fn walk<D: BlockDev>(
     }
 }
 
-/// The data block of which that digest is expected, or its spare. One that the line ignores is zeros, and isn't read.
+/// The data block that is wanted, or its spare. One that the line ignores is zeros, and isn't read; nor is the one that is kept, if a
+/// part of it alone is read.
 #[cycle(read)]
 fn read_data<D: BlockDev>(
     config: &Config,
     backing: &mut Backing<D>,
     verity: &Verity,
     tree: &Tree,
-    index: u64,
-    expected: &Digest,
+    wanted: &WantedData,
 ) -> Result<Vec<u8>, IoFault>
     requires stack { IsBacking D.state config.now backing.old }
-    requires block { HasDataBlock config.now verity.now tree.now index }
-    ensures reads { GetsBy D.state (data_wanted config.now verity.now index expected.now) backing.old backing.new result }
+    requires block { HasDataBlock config.now verity.now tree.now wanted.now.block }
+    ensures reads { GetsBy D.state (data_wanted config.now verity.now wanted.now.block wanted.now.digest) backing.old backing.new result }
     ensures cached { StaysSound D.state config.now backing.old backing.new }
     ensures touches { Asks D.state config.now (leaves_of config.now (mapped tree.now.device.0)) backing.old backing.new result }
-    ensures given { GivesData (DeviceDoes D.state D.does) config.now (place_in verity.now tree.now index) expected.now backing.old backing.new (block_answer result) }
+    ensures given { GivesData (DeviceDoes D.state D.does) config.now (place_in verity.now tree.now wanted.now.block) wanted.now backing.old backing.new (block_answer result) }
 {
-    if is_ignored(config, verity, tree, expected) {
+    if is_ignored(config, verity, tree, &wanted.digest) {
         return match zero_block(backing.alloc, verity.data_block) {
             Ok(block) => Ok(block),
             Err(_) => Err(IoFault::NoMemory),
         };
     }
-    let extent = data_extent(config, verity, tree, index);
-    let lost = LostBlock {
-        index,
-        digest: *expected,
-    };
-    match read_checked(config, backing, extent, &verity.salt, expected) {
-        Ok(block) => Ok(block),
+    match kept_data(backing.alloc, &backing.cache, tree, wanted) {
+        Err(_) => Err(IoFault::NoMemory),
+        Ok(Some(block)) => Ok(block),
+        Ok(None) => fetch_data(config, backing, verity, tree, wanted),
+    }
+}
+
+/// The data block that is wanted, which is read, checked, and then kept; or its spare, which isn't kept.
+#[cycle(read)]
+fn fetch_data<D: BlockDev>(
+    config: &Config,
+    backing: &mut Backing<D>,
+    verity: &Verity,
+    tree: &Tree,
+    wanted: &WantedData,
+) -> Result<Vec<u8>, IoFault>
+    requires stack { IsBacking D.state config.now backing.old }
+    requires block { HasDataBlock config.now verity.now tree.now wanted.now.block }
+    requires used { is_ignored verity.now wanted.now.digest ≡ false }
+    ensures reads { GetsBy D.state (data_wanted config.now verity.now wanted.now.block wanted.now.digest) backing.old backing.new result }
+    ensures cached { StaysSound D.state config.now backing.old backing.new }
+    ensures touches { Asks D.state config.now (leaves_of config.now (mapped tree.now.device.0)) backing.old backing.new result }
+    ensures given { GivesData (DeviceDoes D.state D.does) config.now (place_in verity.now tree.now wanted.now.block) (all_of wanted.now) backing.old backing.new (block_answer result) }
+{
+    let extent = data_extent(config, verity, tree, wanted.block);
+    match read_checked(config, backing, extent, &verity.salt, &wanted.digest) {
+        Ok(block) => {
+            let key = data_key(tree, wanted.block);
+            // As for a hash block, if memory is short.
+            let _kept = backing
+                .cache
+                .keep_last(backing.alloc, key, wanted.digest, block.as_slice());
+            Ok(block)
+        }
         Err(own) => {
             if can_heal(verity, own) {
+                let lost = LostBlock {
+                    index: wanted.block,
+                    digest: wanted.digest,
+                };
                 return heal(config, backing, verity, tree, &lost, own);
             }
             Err(own)
@@ -392,7 +439,7 @@ fn read_data<D: BlockDev>(
     }
 }
 
-/// The spare of a data block whose own read ended in that fault, which is counted; or the fault, if the attempt is in vain.
+/// The spare of a block whose own read ended in that fault, which is counted; or the fault, if the attempt is in vain.
 #[cycle(read)]
 fn heal<D: BlockDev>(
     config: &Config,
@@ -403,7 +450,7 @@ fn heal<D: BlockDev>(
     fault: IoFault,
 ) -> Result<Vec<u8>, IoFault>
     requires stack { IsBacking D.state config.now backing.old }
-    requires block { HasDataBlock config.now verity.now tree.now lost.now.index }
+    requires block { HasVerifiedBlock config.now verity.now tree.now lost.now.index }
     requires fault { HealsFault verity.now.parity (leaves_of config.now (mapped tree.now.device.0)) fault }
     ensures reads { HealsBy D.state (DeviceDoes D.state D.does) config.now (place_in verity.now tree.now lost.now.index) lost.now fault backing.old backing.new result }
     ensures cached { StaysSound D.state config.now backing.old backing.new }
@@ -453,7 +500,7 @@ fn settle_block<D: BlockDev>(
     }
 }
 
-/// Adds to the sums the block at a position of the round of a data block, unless it is that one, or there is none.
+/// Adds to the sums the block at a position of the round of a block, unless it is that one, or there is none.
 #[cycle(read)]
 fn add_other<D: BlockDev>(
     config: &Config,
@@ -464,7 +511,7 @@ fn add_other<D: BlockDev>(
     sums: &mut [u8],
 ) -> Result<(), IoFault>
     requires stack { IsBacking D.state config.now backing.old }
-    requires block { HasDataBlock config.now verity.now tree.now at.0 }
+    requires block { HasVerifiedBlock config.now verity.now tree.now at.0 }
     requires size { length sums.old ≡ verity.now.data_block }
     ensures reads { (q : Parity) → verity.now.parity ≡ Some q → GetsBy D.state (other_wanted (block_in config.now verity.now at.0) q at.1 sums.old) backing.old backing.new (buffer_answer result sums.new) }
     ensures cached { StaysSound D.state config.now backing.old backing.new }
@@ -488,7 +535,7 @@ fn add_other<D: BlockDev>(
     }
 }
 
-/// Adds to the sums the parity of the round of a data block.
+/// Adds to the sums the parity of the round of a block.
 #[cycle(read)]
 fn add_parity<D: BlockDev>(
     config: &Config,
@@ -499,7 +546,7 @@ fn add_parity<D: BlockDev>(
     sums: &mut [u8],
 ) -> Result<(), IoFault>
     requires stack { IsBacking D.state config.now backing.old }
-    requires block { HasDataBlock config.now verity.now tree.now index }
+    requires block { HasVerifiedBlock config.now verity.now tree.now index }
     requires size { length sums.old ≡ verity.now.data_block }
     ensures reads { (q : Parity) → verity.now.parity ≡ Some q → GetsBy D.state (stored_wanted (block_in config.now verity.now index) q sums.old) backing.old backing.new (buffer_answer result sums.new) }
     ensures cached { StaysSound D.state config.now backing.old backing.new }
@@ -523,7 +570,7 @@ fn add_parity<D: BlockDev>(
     }
 }
 
-/// The spare of a data block: the sum of the other blocks of its round and of their parity, if it has the digest.
+/// The spare of a block: the sum of the other blocks of its round and of their parity, if it has the digest.
 #[cycle(read)]
 fn mend<D: BlockDev>(
     config: &Config,
@@ -534,7 +581,7 @@ fn mend<D: BlockDev>(
     out: &mut [u8],
 ) -> Result<(), IoFault>
     requires stack { IsBacking D.state config.now backing.old }
-    requires block { HasDataBlock config.now verity.now tree.now lost.now.index }
+    requires block { HasVerifiedBlock config.now verity.now tree.now lost.now.index }
     requires size { length out.old ≡ verity.now.data_block }
     ensures reads { GetsBy D.state (spare_wanted config.now verity.now lost.now) backing.old backing.new (buffer_answer result out.new) }
     ensures cached { StaysSound D.state config.now backing.old backing.new }
@@ -575,7 +622,7 @@ fn hash_block<D: BlockDev>(
     expected: &Digest,
 ) -> Result<Vec<u8>, IoFault>
     requires stack { IsBacking D.state config.now backing.old }
-    requires key { IsPlaceOf config.now salt.now key extent }
+    requires key { IsPlaceOf hash_stored config.now salt.now key extent }
     ensures reads { GetsBy D.state (extent_wanted config.now extent salt.now expected.now) backing.old backing.new result }
     ensures cached { StaysSound D.state config.now backing.old backing.new }
     ensures touches { Asks D.state config.now (leaves_of config.now extent.lower) backing.old backing.new result }
@@ -598,6 +645,41 @@ fn hash_block<D: BlockDev>(
     }
 }
 
+/// A hash block on the way to a data block, or its spare, which isn't kept.
+#[cycle(read)]
+fn way_block<D: BlockDev>(
+    config: &Config,
+    backing: &mut Backing<D>,
+    verity: &Verity,
+    tree: &Tree,
+    wanted: &WantedBlock,
+) -> Result<Vec<u8>, IoFault>
+    requires stack { IsBacking D.state config.now backing.old }
+    requires block { HasDataBlock config.now verity.now tree.now wanted.now.block }
+    requires level { wanted.now.level < levels (tree_of verity.now) }
+    ensures reads { GetsBy D.state (hash_wanted config.now verity.now wanted.now) backing.old backing.new result }
+    ensures cached { StaysSound D.state config.now backing.old backing.new }
+    ensures touches { Asks D.state config.now (leaves_of config.now (mapped tree.now.device.0)) backing.old backing.new result }
+    ensures given { ReadsOn (DeviceDoes D.state D.does) config.now (way_of (place_in verity.now tree.now wanted.now.block) wanted.now.level wanted.now.digest) backing.old backing.new (block_answer result) }
+{
+    let extent = hash_extent(config, verity, tree, wanted.level, wanted.block);
+    let key = hash_key(tree, wanted.level, wanted.block);
+    match hash_block(config, backing, key, extent, &verity.salt, &wanted.digest) {
+        Ok(block) => Ok(block),
+        Err(own) => {
+            if can_heal(verity, own) {
+                let number = hash_number(config, verity, tree, wanted.level, wanted.block);
+                let lost = LostBlock {
+                    index: number,
+                    digest: wanted.digest,
+                };
+                return heal(config, backing, verity, tree, &lost, own);
+            }
+            Err(own)
+        }
+    }
+}
+
 /// A hash block of a path: the one that the path has, or one that is fetched and stored in the path.
 #[cycle(read)]
 fn path_block<D: BlockDev>(
@@ -611,14 +693,14 @@ fn path_block<D: BlockDev>(
     requires stack { IsBacking D.state config.now backing.old }
     requires block { HasDataBlock config.now verity.now tree.now wanted.now.block }
     requires level { wanted.now.level < levels (tree_of verity.now) }
-    requires held { All (IsCached config.now (leaves_in D.state backing.old)) path.old.items }
+    requires held { All (IsHeld config.now (leaves_in D.state backing.old)) path.old.items }
     requires at { wanted.now.at ≤ length path.old.items }
-    ensures reads { (x : CachedBlock) → GetsBy D.state (way_wanted config.now verity.now tree.now wanted.now) backing.old backing.new (buffer_answer result ((get_or path.new.items wanted.now.at x).bytes)) }
+    ensures reads { (x : CachedBlock) → GetsBy D.state (way_wanted config.now verity.now wanted.now) backing.old backing.new (buffer_answer result ((get_or path.new.items wanted.now.at x).bytes)) }
     ensures there { OnOk result (wanted.now.at < length path.new.items) }
     ensures above { take wanted.now.at path.new.items ≡ take wanted.now.at path.old.items }
-    ensures held { All (IsCached config.now (leaves_in D.state backing.new)) path.new.items }
+    ensures held { All (IsHeld config.now (leaves_in D.state backing.new)) path.new.items }
     ensures cached { StaysSound D.state config.now backing.old backing.new }
-    ensures touches { Asks D.state config.now (leaves_of config.now tree.now.hash) backing.old backing.new result }
+    ensures touches { Asks D.state config.now (leaves_of config.now (mapped tree.now.device.0)) backing.old backing.new result }
     ensures given { GivesOnWay (DeviceDoes D.state D.does) config.now (place_in verity.now tree.now wanted.now.block) wanted.now path.new.items backing.old backing.new result }
 {
     let at = wanted.at;
@@ -627,8 +709,7 @@ fn path_block<D: BlockDev>(
     if stands(path.as_slice(), at, key, &digest) {
         return Ok(());
     }
-    let extent = hash_extent(config, verity, tree, wanted.level, wanted.block);
-    match hash_block(config, backing, key, extent, &verity.salt, &digest) {
+    match way_block(config, backing, verity, tree, wanted) {
         Err(fault) => Err(fault),
         Ok(bytes) => match put(path, at, PathBlock { key, digest, bytes }) {
             Err(_) => Err(IoFault::NoMemory),
@@ -649,13 +730,13 @@ fn walk_path<D: BlockDev>(
 ) -> Result<Digest, IoFault>
     requires stack { IsBacking D.state config.now backing.old }
     requires block { HasDataBlock config.now verity.now tree.now index }
-    requires held { All (IsCached config.now (leaves_in D.state backing.old)) path.old.items }
+    requires held { All (IsHeld config.now (leaves_in D.state backing.old)) path.old.items }
     ensures ok { IfOk result (WalkedBy D.state config.now verity.now index path.new.items backing.old backing.new) }
     ensures err { IfErr result (λ e. ChainBy D.state config.now verity.now index backing.old backing.new (Err e)) }
     ensures moved { ReadsWay D.state config.now verity.now index backing.old backing.new }
-    ensures held { All (IsCached config.now (leaves_in D.state backing.new)) path.new.items }
+    ensures held { All (IsHeld config.now (leaves_in D.state backing.new)) path.new.items }
     ensures cached { StaysSound D.state config.now backing.old backing.new }
-    ensures touches { Asks D.state config.now (leaves_of config.now tree.now.hash) backing.old backing.new result }
+    ensures touches { Asks D.state config.now (leaves_of config.now (mapped tree.now.device.0)) backing.old backing.new result }
     ensures given { WalksTo (DeviceDoes D.state D.does) config.now (place_in verity.now tree.now index) path.new.items backing.old backing.new result }
 {
     let mut digest = verity.root;

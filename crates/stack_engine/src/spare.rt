@@ -1,11 +1,11 @@
-//! The spare of a data block: the sum, by exclusive-or, of the other blocks of its round and of their parity.
+//! The spare of a block: the sum, by exclusive-or, of the other blocks of its round and of their parity.
 ghost use Rattle.std.specs.Prelude.{◌≡◌, ◌≤◌, ◌<◌, ◌/◌, ◌%◌, length, IfSome, IsSome, Some};
 ghost use Rattle.dm_table.specs.declared.parity.Parity.{Parity};
 ghost use Rattle.dm_table.specs.Grammar.{IsParityOfGrammar};
 ghost use Rattle.stack_rules.specs.Rules.{IsLoaded};
 ghost use Rattle.stack_meaning.specs.Spares.{added_block, with_parity};
 ghost use Rattle.stack_lines.specs.Extents.{LiesInsideLower};
-ghost use Rattle.stack_lines.specs.Walks.{HasDataBlock};
+ghost use Rattle.stack_lines.specs.Walks.{HasVerifiedBlock};
 ghost use Rattle.stack_engine.specs.SectorCalls.{other_by, other_number, place_in};
 ghost use Rattle.stack_engine.specs.Healing.{can_heal, first_device, unhealed};
 ghost use Rattle.stack_engine.specs.Restored.{one_more};
@@ -19,7 +19,8 @@ use stack_meaning::IoFault;
 use stack_rules::round_count;
 use tree_shape::Digest;
 
-/// A data block that isn't readable or has another digest, by its number in the line, and the digest that is expected of it.
+/// A block that isn't readable or has another digest, by its number among those that parity covers, and the digest that is expected of
+/// it.
 #[derive(Clone, Copy)]
 pub(crate) struct LostBlock {
     pub(crate) index: u64,
@@ -45,7 +46,7 @@ fn first_device(own: IoFault, failed: u32) -> IoFault
     }
 }
 
-/// The fault of a data block whose own read ended in a fault, and the read of its spare in another one: its own fault, unless an
+/// The fault of a block whose own read ended in a fault, and the read of its spare in another one: its own fault, unless an
 /// allocation failed, or a device did for the spare alone.
 pub(crate) fn unhealed(own: IoFault, vain: IoFault) -> IoFault
     ensures { result ≡ unhealed own vain }
@@ -57,13 +58,13 @@ pub(crate) fn unhealed(own: IoFault, vain: IoFault) -> IoFault
     }
 }
 
-/// Whether the spare of a data block is read after its own read ended in that fault: in one of the lines, or in a device's if the line
-/// has parity.
+/// Whether the spare of a block is read after its own read ended in that fault: in one of the lines or in a device's, if the line has
+/// parity.
 pub(crate) fn can_heal(verity: &Verity, own: IoFault) -> bool
     ensures { result ≡ can_heal verity.now.parity own }
 {
     match own {
-        IoFault::Stack(_) => true,
+        IoFault::Stack(_) => verity.parity.is_some(),
         IoFault::Device(_) => verity.parity.is_some(),
         IoFault::NoMemory => false,
     }
@@ -94,7 +95,7 @@ pub(crate) fn add_stored(stored: &[u8], sums: &mut [u8])
     add_parity(stored, count, sums);
 }
 
-/// The number of the covered block at a position of the round of a data block, unless it is that block, or there is none.
+/// The number of the covered block at a position of the round of a block, unless it is that block, or there is none.
 fn other_number(parity: &Parity, index: u64, place: u32) -> Option<u64>
     requires grammar { IsParityOfGrammar parity.now }
     requires inside { index < parity.now.blocks }
@@ -112,7 +113,7 @@ fn other_number(parity: &Parity, index: u64, place: u32) -> Option<u64>
     }
 }
 
-/// Where the block at a position of the round of a data block lies, unless it is that block, or there is none.
+/// Where the block at a position of the round of a block lies, unless it is that block, or there is none.
 pub(crate) fn other_extent(
     config: &Config,
     verity: &Verity,
@@ -121,7 +122,7 @@ pub(crate) fn other_extent(
     place: u32,
 ) -> Option<Extent>
     requires loaded { IsLoaded config.now }
-    requires block { HasDataBlock config.now verity.now tree.now index }
+    requires block { HasVerifiedBlock config.now verity.now tree.now index }
     ensures is { result ≡ other_by (place_in verity.now tree.now index) verity.now.parity place }
     ensures lies { IfSome result (LiesInsideLower config.now) }
     ensures few { IfSome result (λ e. e.sectors ≤ 8) }
@@ -135,7 +136,7 @@ pub(crate) fn other_extent(
     }
 }
 
-/// Where the parity of the round of a data block lies, if the line has parity.
+/// Where the parity of the round of a block lies, if the line has parity.
 pub(crate) fn stored_extent(
     config: &Config,
     verity: &Verity,
@@ -143,7 +144,7 @@ pub(crate) fn stored_extent(
     index: u64,
 ) -> Option<Stored>
     requires loaded { IsLoaded config.now }
-    requires block { HasDataBlock config.now verity.now tree.now index }
+    requires block { HasVerifiedBlock config.now verity.now tree.now index }
     ensures is { IfSome result (λ at. (q : Parity) × (verity.now.parity ≡ Some q) × IsStoredAt config.now (place_in verity.now tree.now index) q at) }
     ensures few { IfSome result (λ at. at.sectors ≤ 192) }
     ensures some { (q : Parity) → verity.now.parity ≡ Some q → IsSome result }

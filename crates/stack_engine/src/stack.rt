@@ -15,7 +15,7 @@ ghost use Rattle.stack_engine.specs.Stacks.{StackRecord, IsSound};
 ghost use Rattle.stack_meaning.specs.Reading.{buffer_answer};
 ghost use Rattle.stack_engine.specs.Syncs.{FailsToSync, MakesSyncs, NeverFail};
 ghost use Rattle.stack_lines.specs.Budgets.{ReadsAtMost};
-ghost use Rattle.stack_engine.specs.Pieces.{AnyPiece, SteadyPiece, stack_over, AreSteadyBeneath, IsCertainPiece, MeetsVerity, piece_budget, PieceGives, PieceStops, ReadRestores, answer_bytes};
+ghost use Rattle.stack_engine.specs.Pieces.{AreReadSectors, AnyPiece, SteadyPiece, stack_keeping, stack_over, AreSteadyBeneath, IsCertainPiece, MeetsVerity, piece_budget, PieceGives, PieceStops, ReadRestores, answer_bytes};
 ghost use Rattle.stack_engine.specs.WritePieces.{ArePiece, AnyWrite, SteadyWrite, MeetsCrypt, UncutPiece, PieceWrote, PieceNeeded, PieceHands};
 
 use crate::answer::Answer;
@@ -45,18 +45,19 @@ pub struct Stack<D: BlockDev> {
 
 impl<D: BlockDev> Model for Stack<D> {
     ghost use Rattle.std.specs.Prelude.{map};
+    ghost use Rattle.stack_lines.specs.Caches.{capacity_of};
     ghost use Rattle.stack_engine.specs.Stacks.{StackRecord, IsStack};
 
     ghost Value = { StackRecord };
 
-    ghost view = { λ s. record { config = s.config; leaves = map D.state s.backing.devices.items; capacity = s.backing.cache.blocks.capacity; kept = s.backing.cache.blocks.blocks; restored = s.backing.restored } };
+    ghost view = { λ s. record { config = s.config; leaves = map D.state s.backing.devices.items; capacity = capacity_of s.backing.cache; kept = s.backing.cache.blocks.blocks; last = s.backing.cache.last; restored = s.backing.restored } };
 
     ghost invariant = { λ s. IsStack s.config (map D.state s.backing.devices.items) s.backing.cache };
 }
 
 impl<D: BlockDev> Stack<D> {
     /// Returns a stack of that configuration over the devices of its leaves, in order. Its cache keeps at most `capacity`
-    /// hash blocks, and allocates nothing before it keeps one.
+    /// hash blocks, and no data block before `keep_data`; it allocates nothing before it keeps one.
     pub fn over(alloc: Global, config: Config, devices: Vec<D>, capacity: u32) -> Stack<D>
         requires { ServeLeaves config.leaves (map D.state devices.items) }
         ensures { result ≡ stack_over config (map D.state devices.items) capacity }
@@ -71,6 +72,14 @@ impl<D: BlockDev> Stack<D> {
             restored: 0,
         };
         Stack { config, backing }
+    }
+
+    /// From now on the data block of which a part was read last is kept too, unless the capacity is 0: while no leaf is written,
+    /// further parts of it may be answered without a call of its device.
+    pub fn keep_data(&mut self)
+        ensures { self.new ≡ stack_keeping self.old }
+    {
+        self.backing.cache.keep_data();
     }
 
     /// Returns the configuration and the devices of its leaves, in order.
@@ -91,9 +100,10 @@ impl<D: BlockDev> Stack<D> {
     /// Reads `n` sectors of a mapped device from sector `first` on, 1 to 128 that lie inside the device. Returns their bytes, 512
     /// for each sector, and the chains of the `verity` lines on their way. `exact` in `steady` is what the stack means; `any`
     /// holds whatever the leaves answer. The bytes are those that its calls of the leaves' devices gave, decrypted by the
-    /// `crypt` lines and verified by the `verity` lines on the way (`given`). If no `verity` line is on the way, a leaf that
-    /// only sectors after a fault reach isn't accessed (`stops`). It reads at most what reading each unit and data block that
-    /// it touches once takes (`spent`). It counts each data block that parity restored, and no other one (`given`, `restored`).
+    /// `crypt` lines and verified by the `verity` lines on the way; those of a part of a data block may be of the kept block
+    /// (`given`). If no `verity` line is on the way, a leaf that only sectors after a fault reach isn't accessed (`stops`). It
+    /// reads at most what reading each unit and data block that it touches once takes (`spent`). It counts each block
+    /// that parity restored, and no other one (`given`, `restored`).
     ///
     /// # Errors
     ///
@@ -131,15 +141,15 @@ impl<D: BlockDev> Stack<D> {
         }
     }
 
-    /// Reads sectors of a mapped device from sector `first` on into the slice, which has room for 1 to 128 that lie inside the
-    /// device. It reads as `read_piece` does, but returns no chains: `any` states that there are chains which show the bytes.
+    /// Reads sectors of a mapped device from sector `first` on into the slice, which has room for 1 to 2,048 that lie inside
+    /// the device. It reads as `read_piece` does, but returns no chains: `any` states that there are chains which show the bytes.
     /// After a fault the slice's content is unspecified. It allocates only if a `verity` line is on the way.
     ///
     /// # Errors
     ///
     /// The faults of `read_piece`; `NoMemory` only if a `verity` line is on the way (`memory`).
     pub fn read_bytes(&mut self, d: DevId, first: u64, out: &mut [u8]) -> Result<(), IoFault>
-        requires piece { ArePiece out.old }
+        requires piece { AreReadSectors out.old }
         requires inside { first + length out.old / 512 ≤ size self.old.config (mapped d.0) }
         ensures any { AnyBytes self.old d.0 first (length out.old / 512) (buffer_answer result out.new) self.new }
         ensures steady { IsCertainPiece self.old d.0 first (length out.old / 512) → SteadyBytes self.old d.0 first (length out.old / 512) (buffer_answer result out.new) self.new }
@@ -197,14 +207,14 @@ impl<D: BlockDev> Stack<D> {
         write_device(&self.config, &mut self.backing, d, first, plain, copy)
     }
 
-    /// Adds the devices of a text, all or none. On `Ok` no hash block is kept.
+    /// Adds the devices of a text, all or none. On `Ok` no block is kept.
     ///
     /// # Errors
     ///
     /// `Refused` if a rule refuses the configuration with them, or `NoMemory` if an allocation was refused.
     pub fn load(&mut self, text: &StackText) -> Result<(), LoadFault>
         ensures ok { OnOk result (first_refusal self.old.config text.now ≡ None) }
-        ensures after { OnOk result (self.new ≡ record self.old { config = after_load self.old.config text.now; kept = [] }) }
+        ensures after { OnOk result (self.new ≡ record self.old { config = after_load self.old.config text.now; kept = []; last = None }) }
         ensures refused { (r : Refusal) → result ≡ Err (LoadFault.Refused r) → IsRefusal self.old.config text.now r }
         ensures memory { result ≡ Err LoadFault.NoMemory → IsOutOfMemory largest_load_allocation }
         ensures same { OnErr result (self.new ≡ self.old) }
@@ -218,14 +228,14 @@ impl<D: BlockDev> Stack<D> {
         outcome
     }
 
-    /// Removes the mapped device of that name; later ones move up by one place. On `Ok` no hash block is kept.
+    /// Removes the mapped device of that name; later ones move up by one place. On `Ok` no block is kept.
     ///
     /// # Errors
     ///
     /// `NoSuchDevice` if there is none, or `InUse` if another device names it.
     pub fn remove(&mut self, name: &[u8]) -> Result<(), RemoveFault>
         ensures ok { OnOk result (removal_fault self.old.config name.now ≡ None) }
-        ensures after { OnOk result (self.new ≡ record self.old { config = after_removal self.old.config name.now; kept = [] }) }
+        ensures after { OnOk result (self.new ≡ record self.old { config = after_removal self.old.config name.now; kept = []; last = None }) }
         ensures err { IfErr result (λ fault. removal_fault self.old.config name.now ≡ Some fault) }
         ensures same { OnErr result (self.new ≡ self.old) }
     {
@@ -254,7 +264,7 @@ impl<D: BlockDev> Stack<D> {
         self.backing.cache.count()
     }
 
-    /// Returns how many data blocks reads have restored by parity, at most the greatest `u64`. A read that restores nothing leaves
+    /// Returns how many blocks reads have restored by parity, at most the greatest `u64`. A read that restores nothing leaves
     /// the count (`given` of `read_piece`), and so do writes, loads and removals.
     pub fn restored(&self) -> u64
         ensures { result ≡ self.now.restored }
@@ -295,6 +305,7 @@ impl<D: SyncDev> Stack<D> {
         ensures config { self.new.config ≡ self.old.config }
         ensures capacity { self.new.capacity ≡ self.old.capacity }
         ensures kept { self.new.kept ≡ self.old.kept }
+        ensures last { self.new.last ≡ self.old.last }
         ensures restored { self.new.restored ≡ self.old.restored }
         ensures err { IfErr result (FailsToSync self.old.leaves self.new.leaves) }
         ensures sure { NeverFail self.old.leaves → IsOk result }

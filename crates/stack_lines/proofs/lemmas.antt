@@ -12,6 +12,7 @@ pub mod SizeLemmas
 pub mod SourceLemmas
 pub mod StandingLemmas
 pub mod StopLemmas
+pub mod StoredLemmas
 pub mod TouchLemmas
 pub mod UnitFirstLemmas
 pub mod UnitLineLemmas

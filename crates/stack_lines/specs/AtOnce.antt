@@ -15,7 +15,7 @@ AreBefore d l i found = All (λ x. x.device ≡ d → x.line ≡ l → x.chain.i
 -- the first n sectors of a part of a verity line, which are whole data blocks: no sector of the data device meets a fault, and
 -- no chain of them or of later ones was found
 pub record GoAtOnce (c : Configuration) (x : VerityPart) (n : ℕ) (found : List FoundRecord) : Type 0 where
-  pub few : n ≤ 128
+  pub few : n ≤ 2048
   pub clear : IsClear c x.data
   pub before : AreBefore x.device.0 x.line (x.first / block_sectors x.verity.now) found
 

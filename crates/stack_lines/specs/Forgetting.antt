@@ -1,5 +1,5 @@
--- Which of the hash blocks that are kept a write forgets.
-use Rattle.std.specs.Prelude.{◌≡◌, ℕ, ◌==◌, Bool, false, IsTrue, List, All}
+-- Which of the blocks that are kept a write forgets.
+use Rattle.std.specs.Prelude.{◌≡◌, ℕ, ◌==◌, ◌⊎◌, Bool, false, IsTrue, List, All, Option, None}
 use Rattle.std.specs.List.{list_any, slice_index_or}
 use Rattle.block_device.specs.Device.{Device}
 use Rattle.stack_rules.specs.Records.{Configuration}
@@ -19,3 +19,7 @@ pub record Forgets (c : Configuration) (these : ℕ → Bool) (old new : List De
   pub within : All (λ i. IsTrue (these i)) written
   pub others : (i : ℕ) (d : Device) → list_any (λ j. i == j) written ≡ false → IsUnwritten (slice_index_or old i d) (slice_index_or new i d)
   pub kept : after ≡ blocks_without (λ key. list_any (λ i. key_stands_on c i key) written) before
+
+-- No leaf was written, and the data block that was kept still is; or no data block is kept.
+pub record DropsLast (old new : List Device) (before after : Option CachedBlock) : Type 0 where
+  pub is : (((i : ℕ) (d : Device) → IsUnwritten (slice_index_or old i d) (slice_index_or new i d)) × (after ≡ before)) ⊎ (after ≡ None)

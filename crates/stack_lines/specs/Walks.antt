@@ -3,26 +3,25 @@ use Rattle.std.specs.Prelude.{◌≡◌, ◌⊎◌, ℕ, zero, suc, ◌+◌, ◌
 use Rattle.std.specs.Option.{option_map_or}
 use Rattle.hash_tree.specs.Chain.{ChainRecord, HangsFrom, IsGood}
 use Rattle.tree_shape.specs.Digests.{digest}
-use Rattle.tree_shape.specs.Shape.{levels}
+use Rattle.tree_shape.specs.Shape.{ancestor, levels}
 use Rattle.block_device.specs.Device.{Device}
-use Rattle.dm_table.specs.declared.parity.Parity.{Parity}
 use Rattle.dm_table.specs.declared.table.Target.TheVariants.{Verity as verity_target}
 use Rattle.dm_table.specs.declared.verity.Verity.{Verity}
 use Rattle.stack_rules.specs.Records.{Configuration}
 use Rattle.stack_rules.specs.Names.{named}
 use Rattle.stack_rules.specs.Descend.{by_name, read_cost}
-use Rattle.stack_rules.specs.Trees.{tree_of, block_sectors, path_sectors}
+use Rattle.stack_rules.specs.Trees.{tree_of, block_sectors, path_blocks, path_sectors}
 use Rattle.stack_rules.specs.targets.Verity.{mend_cost}
 use Rattle.stack_meaning.specs.declared.fault.IoFault.{IoFault}
 use Rattle.stack_lines.specs.declared.tree.Tree.{Tree}
 use Rattle.stack_meaning.specs.Sectors.{SomeOf}
 use Rattle.stack_meaning.specs.declared.fault.Fault.{Fault}
-use Rattle.stack_meaning.specs.Agreement.{AgreesOn, BlockAgrees}
+use Rattle.stack_meaning.specs.Agreement.{AgreesOn, LineAgrees}
 use Rattle.stack_meaning.specs.Beneath.{below}
 use Rattle.stack_meaning.specs.Outcomes.{Outcome, mismatch, Images}
-use Rattle.stack_meaning.specs.Spares.{BlockSources, data_spare}
+use Rattle.stack_meaning.specs.Spares.{BlockSources, covered_spare, healed_outcome, verified_blocks}
 use Rattle.stack_meaning.specs.targets.Verity.{sources_over}
-use Rattle.stack_meaning.specs.Blocks.{hash_sectors, checked_span, data_block_at, block_below, verified_block, BlockMeets}
+use Rattle.stack_meaning.specs.Blocks.{covered_hash, hash_sectors, hash_start, checked_span, data_block_at, block_below, verified_block, BlockMeets}
 use Rattle.stack_meaning.specs.Leaves.{steady_images, AreRead}
 use Rattle.stack_meaning.specs.Meaning.{Said, none_said, said_by_name}
 use Rattle.stack_meaning.specs.Places.{Place, Expected}
@@ -45,6 +44,11 @@ pub record IsTreeOf (c : Configuration) (v : Verity) (tree : Tree) : Type 0 wher
 pub record HasDataBlock (c : Configuration) (v : Verity) (tree : Tree) (index : ℕ) : Type 0 where
   pub lies : IsTreeOf c v tree
   pub there : index < v.blocks
+
+-- it has a block of that number that is verified, a data block or a hash block
+pub record HasVerifiedBlock (c : Configuration) (v : Verity) (tree : Tree) (j : ℕ) : Type 0 where
+  pub lies : IsTreeOf c v tree
+  pub there : j < verified_blocks v
 
 -- ---- one block
 
@@ -70,7 +74,8 @@ checked_expected bytes_of place first n salt expected = record {
 
 -- ---- a data block
 
--- a data block of a verity line: the places of its data blocks, of its hash blocks and of its parity, and its number
+-- a block of a verity line: the places of its data blocks, of its hash blocks and of its parity, and its number among the covered
+-- blocks, which begin with the data blocks
 pub record DataBlock : Type 1 where
   pub verity : Verity
   pub on_data : Place
@@ -94,6 +99,10 @@ parity_place c v = record {
 abbrev pub block_in : Configuration → Verity → ℕ → DataBlock
 block_in c v i = record { verity = v; on_data = place_named c v.data; on_hash = place_named c v.hash; on_parity = parity_place c v; index = i }
 
+-- the covered block of that number of the same line
+abbrev pub at_number : DataBlock → ℕ → DataBlock
+at_number b j = record b { index = j }
+
 -- the semantics of sector t of base i: of the data, hash and parity devices, in order
 abbrev pub base_said : DataBlock → ℕ → ℕ → Said
 base_said b zero = b.on_data.said
@@ -108,12 +117,12 @@ sources_of b images = sources_over (base_said b) images
 abbrev pub block_leaves : DataBlock → ℕ → Bool
 block_leaves b i = b.on_data.leaves i || (b.on_hash.leaves i || b.on_parity.leaves i)
 
--- the images that its three devices are on agree, and so does the block with what parity restores in its place
+-- the images that its three devices are on agree, and so do the line's blocks with what parity restores in their place
 pub record AgreesAt (b : DataBlock) (images : Images) : Type 0 where
   pub on_data : b.on_data.agrees images
   pub on_hash : b.on_hash.agrees images
   pub on_parity : b.on_parity.agrees images
-  pub own : (p : Parity) → b.verity.parity ≡ Some p → BlockAgrees b.verity p (sources_of b images) b.index
+  pub line : LineAgrees b.verity (sources_of b images)
 
 -- the most leaf sectors that are read for a spare: 0 without parity
 abbrev pub spare_cost : DataBlock → ℕ
@@ -123,13 +132,33 @@ spare_cost b = mend_cost b.verity b.verity.parity (b.on_data.cost ∷ b.on_hash.
 abbrev pub means_below : DataBlock → Images → ℕ → List ℕ → Outcome
 means_below b images l expected = block_below b.verity (sources_of b images) b.index l expected
 
+-- of a block of n sectors of a place that has the digest, or of the spare of covered block j
+abbrev pub healed_expected : {A : Type 0} → (A → List ℕ) → DataBlock → Place → ℕ → ℕ → ℕ → List ℕ → Expected A
+healed_expected bytes_of b place first n j expected = record {
+  is = λ x. IsBlockOfDigest n b.verity.salt expected (bytes_of x);
+  faults = SpanMeets place first n;
+  bytes_of = bytes_of;
+  means = λ images. healed_outcome (checked_span (λ s. (place.said s).means images) first n b.verity.salt expected) (covered_spare b.verity (sources_of b images) b.verity.parity j expected);
+  cost = n * place.cost + spare_cost b;
+  leaves = block_leaves b;
+  agrees = AgreesAt b;
+}
+
+-- of the hash block of level l on the path to a data block
+abbrev pub way_expected : {A : Type 0} → (A → List ℕ) → DataBlock → ℕ → List ℕ → Expected A
+way_expected bytes_of b l expected = healed_expected bytes_of b b.on_hash (hash_start b.verity l b.index) (hash_sectors b.verity) (covered_hash b.verity l (ancestor (tree_of b.verity) (l + 1) b.index)) expected
+
+-- the most leaf sectors that are read for it
+abbrev pub way_cost : DataBlock → ℕ
+way_cost b = hash_sectors b.verity * b.on_hash.cost + spare_cost b
+
 -- of what parity restores in its place, if that digest is expected of it; a fault of an attempt in vain isn't returned
 abbrev pub spare_expected : {A : Type 0} → (A → List ℕ) → DataBlock → List ℕ → Expected A
 spare_expected bytes_of b expected = record {
   is = λ x. IsBlockOfDigest (block_sectors b.verity) b.verity.salt expected (bytes_of x);
   faults = λ fault. Unit {0};
   bytes_of = bytes_of;
-  means = λ images. data_spare b.verity (sources_of b images) b.verity.parity b.index expected;
+  means = λ images. covered_spare b.verity (sources_of b images) b.verity.parity b.index expected;
   cost = spare_cost b;
   leaves = block_leaves b;
   agrees = AgreesAt b;
@@ -154,7 +183,7 @@ chain_expected b = record {
   faults = BlockMeets b.verity (λ s. (b.on_data.said s).meets) (λ s. (b.on_hash.said s).meets) b.index;
   bytes_of = λ chain. chain.content;
   means = λ images. verified_block b.verity (sources_of b images) b.index;
-  cost = block_sectors b.verity * b.on_data.cost + spare_cost b + path_sectors b.verity * b.on_hash.cost;
+  cost = block_sectors b.verity * b.on_data.cost + path_sectors b.verity * b.on_hash.cost + path_blocks b.verity * spare_cost b;
   leaves = block_leaves b;
   agrees = AgreesAt b;
 }
@@ -165,7 +194,7 @@ GetsChain b old new result = Gets (chain_expected b) old new result
 -- what holds once the path was read, if l levels are left and that digest is expected of the next block
 pub record IsWalked (b : DataBlock) (l : ℕ) (expected : List ℕ) (path : List (List ℕ)) (old new : List Device) : Type 0 where
   pub count : length path + l ≡ levels (tree_of b.verity)
-  pub moved : AreRead old (length path * (hash_sectors b.verity * b.on_hash.cost)) new
+  pub moved : AreRead old (length path * way_cost b) new
   pub hangs : (rest : List (List ℕ)) (content : List ℕ) → length rest ≡ l → HangsFrom (tree_of b.verity) b.verity.salt b.index expected rest content
       → HangsFrom (tree_of b.verity) b.verity.salt b.index b.verity.root (path ++ rest) content
   pub exact : IsCertain (chain_expected b) old → (chain_expected b).means (steady_images old) ≡ means_below b (steady_images old) l expected

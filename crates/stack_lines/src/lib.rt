@@ -5,6 +5,7 @@ mod cache;
 mod cuts;
 mod encrypts;
 mod keys_on_leaf;
+mod last_block;
 mod leaf_set;
 mod leaf_sets;
 mod read_runs;

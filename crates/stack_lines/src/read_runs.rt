@@ -14,7 +14,7 @@ use stack_config::{Config, DevId};
 use stack_meaning::Found;
 
 /// The most sectors of data blocks that are read at once.
-const MOST: u64 = 128;
+const MOST: u64 = 2048;
 
 /// Whether each chain of a line is that of a block before that one.
 fn are_before(found: &[Found], device: u32, line: u32, index: u64) -> bool

@@ -4,7 +4,7 @@ ghost use Rattle.tree_shape.specs.Shape.{ancestor, levels};
 ghost use Rattle.stack_rules.specs.Names.{size};
 ghost use Rattle.stack_rules.specs.Rules.{IsLoaded};
 ghost use Rattle.stack_rules.specs.Trees.{tree_of, block_sectors};
-ghost use Rattle.stack_meaning.specs.Blocks.{hash_sectors, hash_start, is_ignored};
+ghost use Rattle.stack_meaning.specs.Blocks.{covered_hash, hash_sectors, hash_start, is_ignored};
 ghost use Rattle.stack_meaning.specs.Spares.{covered_start, parity_start};
 ghost use Rattle.stack_meaning.specs.Found.{FoundRecord, found_entry};
 ghost use Rattle.stack_lines.specs.Covered.{HasCoveredBlock, HasRound, covered_lower};
@@ -85,6 +85,21 @@ pub fn hash_extent(config: &Config, verity: &Verity, tree: &Tree, level: u32, in
     }
 }
 
+/// Returns the number, among the blocks that parity covers, of the hash block of a level on the way to data block `index`.
+pub fn hash_number(config: &Config, verity: &Verity, tree: &Tree, level: u32, index: u64) -> u64
+    requires loaded { IsLoaded config.now }
+    requires block { HasDataBlock config.now verity.now tree.now index }
+    requires level { level < levels (tree_of verity.now) }
+    ensures { result ≡ covered_hash verity.now level (ancestor (tree_of verity.now) (level + 1) index) }
+{
+    let _config = config;
+    let place = tree
+        .shape
+        .position(level, tree.shape.block_on_path(level, index));
+    let within = place - verity.start;
+    verity.blocks + within
+}
+
 /// Returns the key under which a cache keeps the hash block of a level on the way to data block `index`.
 pub fn hash_key(tree: &Tree, level: u32, index: u64) -> Key
     requires { index < tree.now.shape.blocks }
@@ -95,6 +110,19 @@ pub fn hash_key(tree: &Tree, level: u32, index: u64) -> Key
         line: tree.line,
         level,
         block: tree.shape.block_on_path(level, index),
+    }
+}
+
+/// Returns the key under which a cache keeps data block `index`.
+pub fn data_key(tree: &Tree, index: u64) -> Key
+    ensures { result ≡ record { device = tree.now.device.0; line = tree.now.line; level = 0; block = index } }
+{
+    let device = tree.device.0;
+    Key {
+        device,
+        line: tree.line,
+        level: 0,
+        block: index,
     }
 }
 

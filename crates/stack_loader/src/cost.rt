@@ -15,8 +15,8 @@ ghost use Rattle.stack_loader.specs.Costs.{line_cost, ceiling, cost, cost_in, ca
 use allocation::{OutOfMemory, filled};
 use dm_table::{Crypt, Line, Target, Verity};
 use stack_rules::{
-    DeviceLowers, LineLowers, Lower, Planned, block_sectors, crypt_of, mend_sectors, path_sectors,
-    unit_sectors, verity_of,
+    DeviceLowers, LineLowers, Lower, Planned, block_sectors, crypt_of, mend_sectors, path_blocks,
+    path_sectors, unit_sectors, verity_of,
 };
 use std::alloc::Global;
 
@@ -70,7 +70,7 @@ fn cost_at(costs: &[u64], lowers: &[Lower], i: usize) -> u128
     }
 }
 
-/// Returns the cost of restoring a block of a `verity` line, or 0 if the line has no parity.
+/// Returns the cost of restoring one block of a `verity` line, or 0 if the line has no parity.
 fn mend_cost(costs: &[u64], verity: &Verity, lowers: &[Lower]) -> u128
     ensures value { result ≡ mend_cost verity.now verity.now.parity (map (cost_in costs.now) lowers.now) }
     ensures fits { result < 2 ^ 96 }
@@ -82,14 +82,15 @@ fn mend_cost(costs: &[u64], verity: &Verity, lowers: &[Lower]) -> u128
 }
 
 /// Returns the cost of reading a sector of a `verity` line: its data block, a hash block of each level, and what
-/// restores a block.
+/// restores each of them.
 fn verity_cost(costs: &[u64], verity: &Verity, lowers: &[Lower]) -> u128
     requires { IsVerityOfGrammar verity.now }
     ensures { (c : Configuration) → Mean c lowers.now (names (target.Verity verity.now)) → result ≡ line_read_cost (by_name c 0 (cost_in costs.now)) (target.Verity verity.now) }
 {
     let block = u128::from(block_sectors(verity)) * cost_at(costs, lowers, 0);
     let path = u128::from(path_sectors(verity)) * cost_at(costs, lowers, 1);
-    block + path + mend_cost(costs, verity, lowers)
+    let restored = u128::from(path_blocks(verity)) * mend_cost(costs, verity, lowers);
+    block + path + restored
 }
 
 fn line_read_cost(costs: &[u64], target: &Target, lowers: &[Lower]) -> u128

@@ -5,6 +5,7 @@ pub mod BlockSizeLemmas
 pub mod ChangeLemmas
 pub mod CheckedLemmas
 pub mod CostLemmas
+pub mod CoveredLemmas
 pub mod EachLineLemmas
 pub mod FoundLemmas
 pub mod GatheredLemmas

@@ -1,5 +1,5 @@
--- Data blocks of a `verity` line, verified from the root hash down.
-use Rattle.std.specs.Prelude.{◌≡◌, ◌⊎◌, ℕ, zero, suc, ◌+◌, ◌*◌, ◌/◌, ◌<◌, Bool, ◌&&◌, List, Ok, if◌then◌else◌}
+-- Data blocks of a `verity` line, verified from the root hash down; of each block on the way its spare may be taken.
+use Rattle.std.specs.Prelude.{◌≡◌, ◌⊎◌, ℕ, zero, suc, ◌+◌, ◌-◌, ◌*◌, ◌/◌, ◌<◌, Bool, ◌&&◌, List, Ok, if◌then◌else◌}
 use Rattle.std.specs.Str.{bytes_eq}
 use Rattle.tree_shape.specs.Digests.{digest, digest_in}
 use Rattle.tree_shape.specs.Shape.{levels, position, slot, ancestor}
@@ -8,7 +8,7 @@ use Rattle.stack_rules.specs.Trees.{tree_of, block_sectors, zero_block}
 use Rattle.stack_meaning.specs.Sectors.{SomeOf}
 use Rattle.stack_meaning.specs.declared.fault.Fault.{Fault}
 use Rattle.stack_meaning.specs.Outcomes.{Outcome, mismatch, then_outcome}
-use Rattle.stack_meaning.specs.Spares.{BlockSources, data_spare, healed_outcome}
+use Rattle.stack_meaning.specs.Spares.{BlockSources, covered_spare, healed_outcome}
 pub use Rattle.stack_meaning.specs.Checked.{checked, checked_span}
 
 -- the number of sectors of a hash block
@@ -23,6 +23,10 @@ hash_place v l b = hash_sectors v * position (tree_of v) l b
 abbrev pub hash_start : Verity → ℕ → ℕ → ℕ
 hash_start v l i = hash_place v l (ancestor (tree_of v) (l + 1) i)
 
+-- the number of hash block b of level l among the covered blocks
+abbrev pub covered_hash : Verity → ℕ → ℕ → ℕ
+covered_hash v l b = v.blocks + (position (tree_of v) l b - v.start)
+
 -- the digest that this hash block stores for the next block on the path
 abbrev pub next_digest : Verity → ℕ → ℕ → List ℕ → List ℕ
 next_digest v l i block = digest_in block (slot (tree_of v) (ancestor (tree_of v) l i))
@@ -36,14 +40,18 @@ is_ignored v expected = v.ignore_zero_blocks && bytes_eq (digest v.salt (zero_bl
 abbrev pub data_block_at : Verity → BlockSources → ℕ → List ℕ → Outcome
 data_block_at v below i expected =
     if is_ignored v expected then Ok (zero_block v)
-    else healed_outcome (checked_span below.on_data (block_sectors v * i) (block_sectors v) v.salt expected) (data_spare v below v.parity i expected)
+    else healed_outcome (checked_span below.on_data (block_sectors v * i) (block_sectors v) v.salt expected) (covered_spare v below v.parity i expected)
+
+-- hash block b of level l, given its expected digest: it, or its spare, must have that digest
+abbrev pub hash_block_at : Verity → BlockSources → ℕ → ℕ → List ℕ → Outcome
+hash_block_at v below l b expected = healed_outcome (checked_span below.on_hash (hash_place v l b) (hash_sectors v) v.salt expected) (covered_spare v below v.parity (covered_hash v l b) expected)
 
 -- data block i, given the number of levels left and the digest expected of the next block: each hash block from the
--- top level down, and then the data block, must have its expected digest
+-- top level down, and then the data block, or its spare, must have its expected digest
 abbrev pub block_below : Verity → BlockSources → ℕ → ℕ → List ℕ → Outcome
 block_below v below i zero expected = data_block_at v below i expected
 block_below v below i (suc l) expected =
-    then_outcome (checked_span below.on_hash (hash_start v l i) (hash_sectors v) v.salt expected)
+    then_outcome (hash_block_at v below l (ancestor (tree_of v) (l + 1) i) expected)
     (λ block. block_below v below i l (next_digest v l i block))
 
 -- data block i; the root hash is the digest expected of the topmost block

@@ -4,10 +4,11 @@ use Rattle.std.specs.Prelude.{◌≡◌, ◌≢◌, ℕ, zero, suc, ◌+◌, ◌
 use Rattle.std.specs.List.{range_with_len}
 use Rattle.reed_solomon.specs.Field.{total}
 use Rattle.reed_solomon.specs.Sums.{part_sum}
+use Rattle.tree_shape.specs.Shape.{area_blocks}
 use Rattle.tree_shape.specs.Digests.{digest}
 use Rattle.dm_table.specs.declared.parity.Parity.{Parity}
 use Rattle.dm_table.specs.declared.verity.Verity.{Verity}
-use Rattle.stack_rules.specs.Trees.{block_sectors, round_count, zero_block}
+use Rattle.stack_rules.specs.Trees.{block_sectors, round_count, tree_of, zero_block}
 use Rattle.stack_meaning.specs.declared.fault.Fault.{Fault}
 use Rattle.stack_meaning.specs.Outcomes.{Outcome, mismatch, span, then_outcome}
 use Rattle.stack_meaning.specs.Checked.{checked, checked_span}
@@ -28,6 +29,10 @@ healed_outcome (Err fault) (Err other) = Err fault
 -- beginning of the tree on
 abbrev pub covered_start : Verity → ℕ → ℕ
 covered_start v j = if nat_lt j v.blocks then block_sectors v * j else block_sectors v * (v.start + (j - v.blocks))
+
+-- how many blocks are verified: the data blocks and the hash blocks, which are covered in this order
+abbrev pub verified_blocks : Verity → ℕ
+verified_blocks v = v.blocks + area_blocks (tree_of v)
 
 -- the sectors of the device of covered block j
 abbrev pub covered_source : Verity → BlockSources → ℕ → ℕ → Outcome
@@ -78,10 +83,10 @@ restored_block v p below j =
 abbrev pub spare_block : Verity → Parity → BlockSources → ℕ → List ℕ → Outcome
 spare_block v p below j expected = then_outcome (restored_block v p below j) (checked v.salt expected)
 
--- the spare of data block i; without parity there is none
-abbrev pub data_spare : Verity → BlockSources → Option Parity → ℕ → List ℕ → Outcome
-data_spare v below None i expected = Err mismatch
-data_spare v below (Some p) i expected = spare_block v p below i expected
+-- the spare of covered block j; without parity there is none
+abbrev pub covered_spare : Verity → BlockSources → Option Parity → ℕ → List ℕ → Outcome
+covered_spare v below None j expected = Err mismatch
+covered_spare v below (Some p) j expected = spare_block v p below j expected
 
 -- ---- laws
 

@@ -77,6 +77,17 @@ noted-more flags holds (Some old) None states n s p q = absurd q
 noted-more flags holds (Some old) (Some new) states n s p q =
     q ∙ ap (λ (l : List Bool). l ++ replicate n (holds s)) p ∙ sym (map-append holds states (replicate n s) ∙ ap (λ (l : List Bool). map holds states ++ l) (map-replicate holds n s))
 
+-- and of more of another state
+pub noted-both : (flags : List Run → List Bool) (holds : SectorState → Bool) (old new : Option (List Run)) (states : List SectorState) (a b : ℕ) (s t : SectorState) → AreNoted flags holds old states
+    → NotesMore flags old new (replicate a (holds s) ++ replicate b (holds t)) → AreNoted flags holds new (states ++ (replicate a s ++ replicate b t))
+noted-both flags holds None None states a b s t p q = tt
+noted-both flags holds None (Some new) states a b s t p q = absurd q
+noted-both flags holds (Some old) None states a b s t p q = absurd q
+noted-both flags holds (Some old) (Some new) states a b s t p q =
+    let both : map holds (replicate a s ++ replicate b t) ≡ replicate a (holds s) ++ replicate b (holds t) =
+    map-append holds (replicate a s) (replicate b t) ∙ ap (λ (l : List Bool). l ++ map holds (replicate b t)) (map-replicate holds a s) ∙ ap (λ (l : List Bool). replicate a (holds s) ++ l) (map-replicate holds b t) in
+    q ∙ ap (λ (l : List Bool). l ++ (replicate a (holds s) ++ replicate b (holds t))) p ∙ sym (map-append holds states (replicate a s ++ replicate b t) ∙ ap (λ (l : List Bool). map holds states ++ l) both)
+
 length-map : (states : List SectorState) → length (map is_had states) ≡ length states
 length-map [] = refl
 length-map (x ∷ states) = ap suc (length-map states)

@@ -1,4 +1,4 @@
--- How often the leaves fail in the first pass.
+-- How often the leaves fail in a pass in large pieces.
 use Rattle.std.proofs.Common.{◌≡◌, ℕ, zero, suc, ◌+◌, ◌-◌, ◌≤◌, List, [], ◌∷◌, length, sum, sym, ap, subst, arith}
 use Rattle.std.proofs.lemmas.List.Sums.{sum_by-cons}
 use Rattle.block_device.specs.Device.{capped}
@@ -9,7 +9,7 @@ use Rattle.stack_engine.specs.Healing.{HasNoParity}
 use Rattle.stack_engine.specs.Stacks.{StackRecord}
 use Rattle.stack_recovery.specs.PassLaws.{FailuresAreFew, failed_reads}
 use Rattle.stack_recovery.specs.Skims.{marks_of}
-use Rattle.stack_recovery.specs.Surveys.{AnswersFinding, Finding, again, fault_of, had, kept, lost}
+use Rattle.stack_recovery.specs.Surveys.{AnswersFinding, Finding, again, had, kept, lost, probed, trimmed}
 use Rattle.stack_recovery.proofs.SkimEndLemmas.{found-config}
 
 one-more : (n : ℕ) → n ≤ n + 1
@@ -39,8 +39,10 @@ by-few io.NoMemory failures = one-more (sum failures)
 
 piece-fails : (d first : ℕ) (w : StackRecord) (n : ℕ) (found : Finding) (w' : StackRecord) → HasNoParity w.config → AnswersFinding w d first n found w' → sum (failures_of w'.leaves) ≤ sum (failures_of w.leaves) + failed_reads found
 piece-fails d first w n (had bytes) w' none a = omega (arith, ap sum (a.any.fails (λ met. none)))
-piece-fails d first w n (lost loss) w' none a = omega (arith, ap sum (a.any.fails (λ met. none)), by-few (fault_of loss) (failures_of w.leaves))
+piece-fails d first w n (lost fault) w' none a = omega (arith, ap sum (a.any.fails (λ met. none)), by-few fault (failures_of w.leaves))
 piece-fails d first w n (again fault) w' none a = omega (arith, ap sum (a.any.fails (λ met. none)), by-few fault (failures_of w.leaves))
+piece-fails d first w n (probed behind bytes) w' none a = omega (arith, ap sum (a.any.fails (λ met. none)))
+piece-fails d first w n (trimmed behind fault) w' none a = omega (arith, ap sum (a.any.fails (λ met. none)), by-few fault (failures_of w.leaves))
 piece-fails d first w n kept w' none a = omega (arith, ap (λ (s : StackRecord). sum (failures_of s.leaves)) a)
 
 pub failures-are-few : FailuresAreFew

@@ -3,35 +3,33 @@ use Rattle.std.proofs.Common.{◌≡◌, ℕ, false, Bool, List, [], ◌∷◌, 
 use Rattle.std.proofs.lemmas.List.{append-nil}
 use Rattle.block_device.specs.Call.{Call, Calls, Write}
 use Rattle.block_device.proofs.lemmas.CallLemmas.{calls-last}
-use Rattle.stack_meaning.specs.declared.fault.IoFault.{IoFault}
 use Rattle.stack_engine.specs.Bytes.{EachBytes}
 use Rattle.stack_engine.specs.Stacks.{StackRecord}
 use Rattle.rescue_map.specs.declared.map.Run.{Run}
 use Rattle.stack_recovery.specs.declared.fault.RecoveryFault.{RecoveryFault}
 use Rattle.stack_recovery.specs.declared.fault.RecoveryFault.TheVariants as recovery
-use Rattle.stack_recovery.specs.declared.piece_limit.PieceLimit.{PieceLimit}
 use Rattle.stack_recovery.specs.declared.recovery.Counts.{Counts}
 use Rattle.stack_recovery.specs.declared.tally.Tally.{Tally}
 use Rattle.stack_recovery.specs.Handing.{HandsOverPart, HandsOverTo, copy_calls}
-use Rattle.stack_recovery.specs.Losses.{StopsInPiece}
-use Rattle.stack_recovery.specs.PassPieces.{Scanned}
+use Rattle.stack_recovery.specs.Losses.{StopsInRun}
+use Rattle.stack_recovery.specs.PassPieces.{Scanned, Trimming}
 use Rattle.stack_recovery.specs.Recoveries.{Sides, counted_sectors, parties}
 use Rattle.stack_recovery.specs.Surveys.{all_states}
 use Rattle.stack_recovery.proofs.UnderwayLemmas.{IsUnderway, counted-all, tally_counts}
 
 -- such a pass, whose writes are the calls on the output device
-pub record IsHanding {O : Type 0} (Did : O → Call → O → Type 0) (makes_map : Bool) (before : List Bool) (scan : Scanned) (old new : Sides) (at : ℕ) (tally : Tally) (made : Option (List Run)) (limit : PieceLimit) (out out' : O) : Type 0 where
+pub record IsHanding {O : Type 0} (Did : O → Call → O → Type 0) (makes_map : Bool) (before : List Bool) (scan : Scanned) (old new : Sides) (at : ℕ) (tally : Tally) (made : Option (List Run)) (t : Trimming) (out out' : O) : Type 0 where
   pub calls : List Call
-  pub under : IsUnderway makes_map before scan old new at tally made limit calls
+  pub under : IsUnderway makes_map before scan old new at tally made t calls
   pub did : Calls Did out calls out'
 
-module _ {O L : Type 0} (Did : O → Call → O → Type 0) (makes_map : Bool) (before : List Bool) (scan : Scanned) (old now : Sides) (at : ℕ) (tally : Tally) (noted : Option (List Run)) (limit : PieceLimit) (out out' : O) (h : IsHanding Did makes_map before scan old now at tally noted limit out out') (a b : L) where
+module _ {O L : Type 0} (Did : O → Call → O → Type 0) (makes_map : Bool) (before : List Bool) (scan : Scanned) (old now : Sides) (at : ℕ) (tally : Tally) (noted : Option (List Run)) (t : Trimming) (out out' : O) (h : IsHanding Did makes_map before scan old now at tally noted t out out') (a b : L) where
   -- the pass ended here
   pub hands-over : (counts : Counts) → counts ≡ tally_counts at tally → HandsOverTo Did before scan.d (counted_sectors counts) (parties old.stack out a) noted (parties now.stack out' b)
   hands-over counts is = record {
     reads = h.under.reads;
     survey = h.under.survey;
-    whole = sym h.under.here ∙ counted-all makes_map before scan old now at tally noted limit h.calls h.under counts is;
+    whole = sym h.under.here ∙ counted-all makes_map before scan old now at tally noted t h.calls h.under counts is;
     noted = h.under.noted;
     made = subst (λ (l : List Call). Calls Did out l out') h.under.written h.did;
   }
@@ -47,9 +45,9 @@ module _ {O L : Type 0} (Did : O → Call → O → Type 0) (makes_map : Bool) (
     ends = refl;
   }
 
-  pub hands-in-piece : (stack : StackRecord) (fault : IoFault) (m : Bool) (x y : L) (error : RecoveryFault) → StopsInPiece fault m x y error → HandsOverPart Did before scan.d (parties old.stack out a) (parties stack out' b) error
-  hands-in-piece stack fault m x y recovery.NoMemory p = hands-part stack
-  hands-in-piece stack fault m x y recovery.Output p = absurd p
+  pub hands-in-run : (stack : StackRecord) (m : Bool) (x y : L) (error : RecoveryFault) → StopsInRun m x y error → HandsOverPart Did before scan.d (parties old.stack out a) (parties stack out' b) error
+  hands-in-run stack m x y recovery.NoMemory p = hands-part stack
+  hands-in-run stack m x y recovery.Output p = absurd p
 
   -- a write failed
   pub hands-failed : (stack : StackRecord) (out'' : O) (n : ℕ) (bytes : List ℕ) → EachBytes now.stack scan.d at n (Ok bytes) stack → Did out' (Write at bytes false) out''

@@ -1,5 +1,5 @@
 -- The calls of a pass: a piece more, and passes after others.
-use Rattle.std.proofs.Common.{◌≡◌, ℕ, ◌+◌, Bool, true, List, Ok, Err, add-zero, inl, inr, subst}
+use Rattle.std.proofs.Common.{◌≡◌, ℕ, ◌+◌, Bool, true, List, Ok, Err, add-zero, inl, inr, subst, sym}
 use Rattle.block_device.specs.Call.{Call, Write}
 use Rattle.block_device.specs.Device.{Device}
 use Rattle.stack_meaning.specs.declared.fault.IoFault.{IoFault}
@@ -14,7 +14,11 @@ module _ {D O : Type 0} (state : D → Device) (does : D → Call → D → Type
 
   -- its read failed, and its sectors are read again
   pub copies-again : (fault : IoFault) → PieceGives state does v (d, at) n (Err fault) v' → CopiesLeaves state does Did marks d w o at v' p
-  copies-again fault given = subst (λ (k : ℕ). CopiesLeaves state does Did marks d w o k v' p) (add-zero at) (piece_failed n 0 fault h given)
+  copies-again fault given = subst (λ (k : ℕ). CopiesLeaves state does Did marks d w o k v' p) (add-zero at) (piece_failed 0 n 0 fault h (subst (λ (k : ℕ). PieceGives state does v (d, k) n (Err fault) v') (sym (add-zero at)) given))
+
+  -- its read failed, and the pass goes on further on
+  pub copies-failed : (further : ℕ) (fault : IoFault) → PieceGives state does v (d, at) n (Err fault) v' → CopiesLeaves state does Did marks d w o (at + further) v' p
+  copies-failed further fault given = piece_failed 0 n further fault h (subst (λ (k : ℕ). PieceGives state does v (d, k) n (Err fault) v') (sym (add-zero at)) given)
 
 pub passes-then : {D O : Type 0} {state : D → Device} {does : D → Call → D → Type 0} {Did : O → Call → O → Type 0} {d : ℕ} {w v : StackRecord} {o p : O} {w' : StackRecord} {o' : O}
     → CopiesPasses state does Did d w o v p → CopiesPasses state does Did d v p w' o' → CopiesPasses state does Did d w o w' o'

@@ -5,8 +5,9 @@ mod CopyLemmas
 mod LongestLemmas
 mod LostRunLemmas
 mod FailureLemmas
-mod GrowthLemmas
+mod SkimLawLemmas
 mod HandingLemmas
+mod LargeLemmas
 mod LeafReadLemmas
 mod MeantLemmas
 mod PieceLemmas
@@ -16,5 +17,6 @@ mod SkimLemmas
 mod SkimPieceLemmas
 mod StretchLemmas
 mod SurveyLemmas
+mod TrimLemmas
 mod UnderwayLemmas
 mod VerityLossLemmas

@@ -1,5 +1,5 @@
 -- What is found over leaves that are steady and never fail.
-use Rattle.std.proofs.Common.{Bool, ◌≡◌, ◌≢◌, ◌⊎◌, ℕ, zero, suc, ◌+◌, ◌-◌, ◌<◌, List, [], ◌∷◌, ◌++◌, length, get_or, map, replicate, true, false, Some, None, Ok, Err, inl, inr, refl, sym, ap, ◌∙◌, subst, arith}
+use Rattle.std.proofs.Common.{Bool, ◌&&◌, ◌||◌, ◌≡◌, ◌≢◌, ◌⊎◌, ℕ, zero, suc, ◌+◌, ◌-◌, ◌<◌, List, [], ◌∷◌, ◌++◌, length, get_or, map, replicate, true, false, Some, None, Ok, Err, inl, inr, refl, sym, ap, ◌∙◌, subst, arith}
 use Rattle.std.proofs.lemmas.Bool.{false≢true}
 use Rattle.std.proofs.lemmas.List.{get_or-replicate, length-append, length-replicate}
 use Rattle.block_device.specs.Device.{Device, in_memory}
@@ -18,15 +18,17 @@ use Rattle.stack_engine.specs.Stacks.{StackRecord}
 use Rattle.stack_meaning.proofs.lemmas.LeafListLemmas.{AreSteady-kept, images-kept, same_length}
 use Rattle.stack_recovery.specs.Alike.{AreAlike}
 use Rattle.stack_recovery.specs.Laws.{AreSure, MarksAreMeant, StatesAreMeant, SurveysAreMeant, meant_state, meant_states}
-use Rattle.rescue_map.specs.Maps.{marks}
-use Rattle.stack_recovery.specs.FirstPasses.{unread_marks}
+use Rattle.rescue_map.specs.declared.map.Run.{Run}
+use Rattle.rescue_map.specs.Maps.{is_settled, joined, kept_had, losts, marks, settled_marks}
+use Rattle.stack_recovery.specs.FirstPasses.{Transfer, transfer, unread_marks}
+use Rattle.stack_recovery.specs.LargePasses.{ReadsLarge}
 use Rattle.stack_recovery.specs.Skims.{IsSkimOver, Skim, is_read, marks_of, skim_marks}
-use Rattle.stack_recovery.specs.declared.lost_run.Loss.TheVariants.{Lost, Unscraped}
+use Rattle.stack_recovery.specs.declared.lost_run.Loss.TheVariants.{Lost}
 use Rattle.stack_recovery.specs.PassLaws.{AreScraped, IsScraped}
 use Rattle.stack_recovery.specs.PassPieces.{ArePassPieces, Pass, Scanned}
 use Rattle.stack_recovery.specs.Recoveries.{is_had}
 use Rattle.stack_recovery.specs.Retries.{AfterPass, IsSilentPass, Steps, after_pass, no_step, one_more, scan_of}
-use Rattle.stack_recovery.specs.Surveys.{Finding, IsPieceSurveyed, IsSurveyOver, PieceRead, SectorState, again, all_states, had, kept, lost, states_found, states_of}
+use Rattle.stack_recovery.specs.Surveys.{Finding, IsPieceSurveyed, IsSurveyOver, PieceRead, SectorState, again, all_states, had, kept, lost, probed, states_found, states_of, trimmed}
 use Rattle.stack_recovery.proofs.AheadLemmas.{marks-none}
 use Rattle.stack_recovery.proofs.PieceLemmas.{passes-scrape}
 use Rattle.stack_recovery.proofs.lemmas.LostLemmas.{span-fault}
@@ -112,10 +114,11 @@ module _ (marks : List Bool) (d first : ℕ) (w : StackRecord) (known : MarksAre
       → states_found n found ≡ meant_states (sector w.config (steady_images w.leaves) (mapped d)) first (length (states_found n found))
   meant-piece (had bytes) scraped p =
       sym (ap (meant_states at first) (length-replicate {A = SectorState} n None) ∙ meant-bytes at first n bytes (p.answered.steady (record { steady = sure.steady; agrees = λ meets. sure.agrees })).exact)
-  meant-piece (lost (Unscraped fault)) scraped p = absurd scraped
-  meant-piece (lost (Lost fault)) scraped p =
+  meant-piece (lost fault) scraped p =
       sym (ap (meant_states at first) (length-replicate {A = SectorState} n (Some (Lost fault))) ∙ meant-lost fault p.answered p.may.0 p.may.1)
   meant-piece (again fault) scraped p = refl
+  meant-piece (probed behind bytes) scraped p = refl
+  meant-piece (trimmed behind fault) scraped p = absurd scraped
   meant-piece kept scraped p = sym (ap (meant_states at first) (length-replicate {A = SectorState} n None) ∙ meant-each at first n None (λ k low. known (first + k) (p.marked k low)))
 
 -- ---- what a read leaves
@@ -144,6 +147,8 @@ piece-left : (marks : List Bool) (d first : ℕ) (w : StackRecord) (n : ℕ) (fo
 piece-left marks d first w n (had bytes) after p sure = read-left d w after p.answered.any.moved p.answered.any.config sure
 piece-left marks d first w n (lost fault) after p sure = read-left d w after p.answered.any.moved p.answered.any.config sure
 piece-left marks d first w n (again fault) after p sure = read-left d w after p.answered.any.moved p.answered.any.config sure
+piece-left marks d first w n (probed behind bytes) after p sure = read-left d w after p.answered.any.moved p.answered.any.config sure
+piece-left marks d first w n (trimmed behind fault) after p sure = read-left d w after p.answered.any.moved p.answered.any.config sure
 piece-left marks d first w n kept after p sure = same-left d w after p.answered sure
 
 -- what a sector means afterwards
@@ -188,44 +193,46 @@ marked-apart (x ∷ xs) ys (suc k) e = next (marked-apart xs ys k e)
 unmarked : (n k : ℕ) → get_or (replicate n false) k false ≡ true → ⊥
 unmarked n k e = false≢true (marks-none n k ∙ e)
 
--- of a piece the sectors that are marked were read
-piece-known : (before : List Bool) (d first : ℕ) (w : StackRecord) (n : ℕ) (found : Finding) (after : StackRecord) → ((k : ℕ) → get_or before k false ≡ true → ⊥)
-    → IsPieceSurveyed before d first w (record { count = n; found = found; after = after }) → AreSure w.config (λ i. stands_on w.config i (mapped d)) w.leaves → (k : ℕ) → k < n → is_read found ≡ true
+-- of a piece the sectors that are marked, but weren't before, were read
+piece-known : (before : List Bool) (d first : ℕ) (w : StackRecord) (n : ℕ) (found : Finding) (after : StackRecord)
+    → IsPieceSurveyed before d first w (record { count = n; found = found; after = after }) → AreSure w.config (λ i. stands_on w.config i (mapped d)) w.leaves → (k : ℕ) → k < n → is_read found ≡ true → get_or before (first + k) false ≡ false
     → meant_state (sector w.config (steady_images w.leaves) (mapped d) (first + k)) ≡ None
-piece-known before d first w n (had bytes) after none p sure k low is = meant-byte (sector w.config (steady_images w.leaves) (mapped d)) first n bytes (p.answered.steady (record { steady = sure.steady; agrees = λ meets. sure.agrees })).exact k low
-piece-known before d first w n (lost fault) after none p sure k low is = absurd (false≢true is)
-piece-known before d first w n (again fault) after none p sure k low is = absurd (false≢true is)
-piece-known before d first w n kept after none p sure k low is = absurd (none (first + k) (p.marked k low))
+piece-known before d first w n (had bytes) after p sure k low is new = meant-byte (sector w.config (steady_images w.leaves) (mapped d)) first n bytes (p.answered.steady (record { steady = sure.steady; agrees = λ meets. sure.agrees })).exact k low
+piece-known before d first w n (lost fault) after p sure k low is new = absurd (false≢true is)
+piece-known before d first w n (again fault) after p sure k low is new = absurd (false≢true is)
+piece-known before d first w n (probed behind bytes) after p sure k low is new = absurd (false≢true is)
+piece-known before d first w n (trimmed behind fault) after p sure k low is new = absurd (false≢true is)
+piece-known before d first w n kept after p sure k low is new = absurd (false≢true (sym new ∙ p.marked k low))
 
 -- of a piece and those after it
-module _ (before : List Bool) (d first : ℕ) (w : StackRecord) (s : Skim) (more : List Skim) (none : (k : ℕ) → get_or before k false ≡ true → ⊥) (p : IsPieceSurveyed before d first w s.piece)
+module _ (before : List Bool) (d first : ℕ) (w : StackRecord) (s : Skim) (more : List Skim) (p : IsPieceSurveyed before d first w s.piece)
     (sure : AreSure w.config (λ i. stands_on w.config i (mapped d)) w.leaves) (left : IsLeft d w s.piece.after)
-    (rest : (k : ℕ) → get_or (skim_marks more) k false ≡ true → meant_state (sector s.piece.after.config (steady_images s.piece.after.leaves) (mapped d) (first + length (marks_of s) + k)) ≡ None) where
+    (rest : (k : ℕ) → get_or (skim_marks more) k false ≡ true → get_or before (first + length (marks_of s) + k) false ≡ false → meant_state (sector s.piece.after.config (steady_images s.piece.after.leaves) (mapped d) (first + length (marks_of s) + k)) ≡ None) where
   within : (k : ℕ) → ((k < length (replicate s.piece.count (is_read s.piece.found))) × (get_or (replicate s.piece.count (is_read s.piece.found)) k false ≡ true))
-      ⊎ ((j : ℕ) × (k ≡ length (replicate s.piece.count (is_read s.piece.found)) + j) × (get_or (replicate s.skip false) j false ≡ true)) → meant_state (sector w.config (steady_images w.leaves) (mapped d) (first + k)) ≡ None
-  within k (inl x) =
+      ⊎ ((j : ℕ) × (k ≡ length (replicate s.piece.count (is_read s.piece.found)) + j) × (get_or (replicate s.skip false) j false ≡ true)) → get_or before (first + k) false ≡ false → meant_state (sector w.config (steady_images w.leaves) (mapped d) (first + k)) ≡ None
+  within k (inl x) new =
       let low : k < s.piece.count = omega (arith, x.0, length-replicate {A = Bool} s.piece.count (is_read s.piece.found)) in
-      piece-known before d first w s.piece.count s.piece.found s.piece.after none p sure k low (sym (get_or-replicate s.piece.count k (is_read s.piece.found) false low) ∙ x.1)
-  within k (inr x) = absurd (unmarked s.skip x.0 x.2)
+      piece-known before d first w s.piece.count s.piece.found s.piece.after p sure k low (sym (get_or-replicate s.piece.count k (is_read s.piece.found) false low) ∙ x.1) new
+  within k (inr x) new = absurd (unmarked s.skip x.0 x.2)
 
-  apart : (k : ℕ) → ((k < length (marks_of s)) × (get_or (marks_of s) k false ≡ true)) ⊎ ((j : ℕ) × (k ≡ length (marks_of s) + j) × (get_or (skim_marks more) j false ≡ true)) → meant_state (sector w.config (steady_images w.leaves) (mapped d) (first + k)) ≡ None
-  apart k (inl x) = within k (marked-apart (replicate s.piece.count (is_read s.piece.found)) (replicate s.skip false) k x.1)
-  apart k (inr x) =
+  apart : (k : ℕ) → ((k < length (marks_of s)) × (get_or (marks_of s) k false ≡ true)) ⊎ ((j : ℕ) × (k ≡ length (marks_of s) + j) × (get_or (skim_marks more) j false ≡ true)) → get_or before (first + k) false ≡ false → meant_state (sector w.config (steady_images w.leaves) (mapped d) (first + k)) ≡ None
+  apart k (inl x) new = within k (marked-apart (replicate s.piece.count (is_read s.piece.found)) (replicate s.skip false) k x.1) new
+  apart k (inr x) new =
       let at : first + k ≡ first + length (marks_of s) + x.0 = omega (arith, x.1) in
-      ap (λ (t : ℕ). meant_state (sector w.config (steady_images w.leaves) (mapped d) t)) at ∙ sym (left-state d w s.piece.after (first + length (marks_of s) + x.0) left) ∙ rest x.0 x.2
+      ap (λ (t : ℕ). meant_state (sector w.config (steady_images w.leaves) (mapped d) t)) at ∙ sym (left-state d w s.piece.after (first + length (marks_of s) + x.0) left) ∙ rest x.0 x.2 (ap (λ (t : ℕ). get_or before t false) (sym at) ∙ new)
 
-  skim-known : (k : ℕ) → get_or (skim_marks (s ∷ more)) k false ≡ true → meant_state (sector w.config (steady_images w.leaves) (mapped d) (first + k)) ≡ None
-  skim-known k e = apart k (marked-apart (marks_of s) (skim_marks more) k e)
+  skim-known : (k : ℕ) → get_or (skim_marks (s ∷ more)) k false ≡ true → get_or before (first + k) false ≡ false → meant_state (sector w.config (steady_images w.leaves) (mapped d) (first + k)) ≡ None
+  skim-known k e new = apart k (marked-apart (marks_of s) (skim_marks more) k e) new
 
--- what the pass leaves, and that the sectors that it marks mean bytes
-skims-known : (before : List Bool) (d first : ℕ) (w : StackRecord) (skims : List Skim) (w' : StackRecord) → ((k : ℕ) → get_or before k false ≡ true → ⊥) → IsSkimOver before d first w skims w'
+-- what the pass leaves, and that the sectors that it marks, but weren't marked before, mean bytes
+skims-known : (before : List Bool) (d first : ℕ) (w : StackRecord) (skims : List Skim) (w' : StackRecord) → IsSkimOver before d first w skims w'
     → AreSure w.config (λ i. stands_on w.config i (mapped d)) w.leaves
-    → IsLeft d w w' × ((k : ℕ) → get_or (skim_marks skims) k false ≡ true → meant_state (sector w.config (steady_images w.leaves) (mapped d) (first + k)) ≡ None)
-skims-known before d first w [] w' none h sure = (same-left d w w' h sure, λ k e. absurd (false≢true e))
-skims-known before d first w (s ∷ more) w' none h sure =
+    → IsLeft d w w' × ((k : ℕ) → get_or (skim_marks skims) k false ≡ true → get_or before (first + k) false ≡ false → meant_state (sector w.config (steady_images w.leaves) (mapped d) (first + k)) ≡ None)
+skims-known before d first w [] w' h sure = (same-left d w w' h sure, λ k e new. absurd (false≢true e))
+skims-known before d first w (s ∷ more) w' h sure =
     let left : IsLeft d w s.piece.after = piece-left before d first w s.piece.count s.piece.found s.piece.after h.0 sure in
-    let rest = skims-known before d (first + length (marks_of s)) s.piece.after more w' none h.1 left.sure in
-    (then-left d w s.piece.after w' left rest.0, skim-known before d first w s more none h.0 sure left rest.1)
+    let rest = skims-known before d (first + length (marks_of s)) s.piece.after more w' h.1 left.sure in
+    (then-left d w s.piece.after w' left rest.0, skim-known before d first w s more h.0 sure left rest.1)
 
 -- ---- the passes between the first one and the last
 
@@ -272,15 +279,71 @@ steps-known scan first scrapes known sure (one_more {n} {now} {next} before step
     let here = silent-known scan now next scrapes step so_far.1 so_far.0.sure in
     (then-left scan.d first.stack now.stack next.stack so_far.0 here.0, here.1)
 
+-- ---- the passes in large pieces
+
+-- a mark of both: the second pass has the sector, and no piece of the first one failed there
+kept-bits : (f h : Bool) → kept_had false f h ≡ true → (h ≡ true) × (f ≡ false)
+kept-bits true true e = absurd (false≢true e)
+kept-bits true false e = absurd (false≢true e)
+kept-bits false true e = (refl, refl)
+kept-bits false false e = absurd (false≢true e)
+
+joined-kept : (failed read : List Bool) (k : ℕ) → get_or (joined (kept_had false) failed read) k false ≡ true → (get_or read k false ≡ true) × (get_or failed k false ≡ false)
+joined-kept [] read k e = absurd (false≢true e)
+joined-kept (f ∷ failed) [] k e = absurd (false≢true e)
+joined-kept (f ∷ failed) (h ∷ read) zero e = kept-bits f h e
+joined-kept (f ∷ failed) (h ∷ read) (suc k) e = joined-kept failed read k e
+
+-- a sector that counts as read before the second pass was read in the first one, or is in a failed piece
+settled-bits : (read bad : Bool) → (read || (bad && true)) ≡ true → bad ≡ false → read ≡ true
+settled-bits true bad e isnt = refl
+settled-bits false true e isnt = absurd (false≢true (sym isnt))
+settled-bits false false e isnt = e
+
+settled-in : (r : Run) (a b c : List Bool) → ((k : ℕ) → get_or a k false ≡ true → get_or b k false ≡ false → get_or c k false ≡ true) → (n k : ℕ) → get_or (replicate n (is_settled false r) ++ a) k false ≡ true
+    → get_or (replicate n r.lost ++ b) k false ≡ false → get_or (replicate n r.had ++ c) k false ≡ true
+settled-in r a b c rest zero k e isnt = rest k e isnt
+settled-in r a b c rest (suc n) zero e isnt = settled-bits r.had r.lost e isnt
+settled-in r a b c rest (suc n) (suc k) e isnt = settled-in r a b c rest n k e isnt
+
+settled-apart : (runs : List Run) (k : ℕ) → get_or (settled_marks false runs) k false ≡ true → get_or (losts runs) k false ≡ false → get_or (marks runs) k false ≡ true
+settled-apart [] k e isnt = e
+settled-apart (r ∷ more) k e isnt = settled-in r (settled_marks false more) (losts more) (marks more) (settled-apart more) r.count k e isnt
+
+-- what they leave, and that the sectors that their map marks mean bytes
+module _ (d : ℕ) (old : Transfer Device) (made : List Run) (new : Transfer Device) (p : ReadsLarge d old made new) (sure : AreSure old.stack.config (λ i. stands_on old.stack.config i (mapped d)) old.stack.leaves) where
+  one : IsLeft d old.stack p.between.stack × ((k : ℕ) → get_or (skim_marks p.skims.skims) k false ≡ true → get_or (unread_marks old.stack.config d) (0 + k) false ≡ false → meant_state (sector old.stack.config (steady_images old.stack.leaves) (mapped d) (0 + k)) ≡ None)
+  one = skims-known (unread_marks old.stack.config d) d 0 old.stack p.skims.skims p.between.stack p.skims.survey sure
+
+  two : IsLeft d p.between.stack new.stack × ((k : ℕ) → get_or (skim_marks p.sweeps.skims) k false ≡ true → get_or (settled_marks false p.first.map) (0 + k) false ≡ false → meant_state (sector p.between.stack.config (steady_images p.between.stack.leaves) (mapped d) (0 + k)) ≡ None)
+  two = skims-known (settled_marks false p.first.map) d 0 p.between.stack p.sweeps.skims new.stack p.sweeps.survey one.0.sure
+
+  first-known : (k : ℕ) → get_or (marks p.first.map) k false ≡ true → meant_state (sector old.stack.config (steady_images old.stack.leaves) (mapped d) k) ≡ None
+  first-known k is =
+      let here : k ≡ 0 + k = omega arith in
+      ap (λ (t : ℕ). meant_state (sector old.stack.config (steady_images old.stack.leaves) (mapped d) t)) here ∙ one.1 k (sym (ap (λ (l : List Bool). get_or l k false) p.skims.noted) ∙ is) (sym (marks-none (size old.stack.config (mapped d)) (0 + k)))
+
+  by-settled : (k : ℕ) (b : Bool) → get_or (settled_marks false p.first.map) k false ≡ b → get_or (marks p.second.map) k false ≡ true → get_or (losts p.first.map) k false ≡ false → meant_state (sector old.stack.config (steady_images old.stack.leaves) (mapped d) k) ≡ None
+  by-settled k true before is isnt = first-known k (settled-apart p.first.map k before isnt)
+  by-settled k false before is isnt =
+      let here : k ≡ 0 + k = omega arith in
+      sym (left-state d old.stack p.between.stack k one.0) ∙ ap (λ (t : ℕ). meant_state (sector p.between.stack.config (steady_images p.between.stack.leaves) (mapped d) t)) here
+      ∙ two.1 k (sym (ap (λ (l : List Bool). get_or l k false) p.sweeps.noted) ∙ is) (ap (λ (t : ℕ). get_or (settled_marks false p.first.map) t false) (sym here) ∙ before)
+
+  large-known : IsLeft d old.stack new.stack × MarksAreMeant (marks made) d new.stack
+  large-known =
+      let left : IsLeft d old.stack new.stack = then-left d old.stack p.between.stack new.stack one.0 two.0 in (
+        left,
+        λ k is.
+            let both = joined-kept (losts p.first.map) (marks p.second.map) k (sym (ap (λ (l : List Bool). get_or l k false) p.map.had) ∙ is) in
+            left-state d old.stack new.stack k left ∙ by-settled k (get_or (settled_marks false p.first.map) k false) refl both.0 both.1,
+      )
+
 pub states-meant : StatesAreMeant
 states-meant t old counts new r scrapes sure =
     let d : ℕ = t.d in
     let n : ℕ = length (all_states r.rescues.reads) in
-    let p = skims-known (unread_marks old.stack.config d) d 0 old.stack r.skims.skims r.between.stack (unmarked (size old.stack.config (mapped d))) r.skims.survey sure in
-    let known : MarksAreMeant (marks r.made.map) d r.between.stack =
-    λ k is. let here : k ≡ 0 + k = omega arith in
-    left-state d old.stack r.between.stack k p.0 ∙ ap (λ (t : ℕ). meant_state (sector old.stack.config (steady_images old.stack.leaves) (mapped d) t)) here
-    ∙ p.1 k (sym (ap (λ (l : List Bool). get_or l k false) r.skims.noted) ∙ is) in
-    let q = steps-known (scan_of t) (after_pass r.between.stack r.between.out r.made.map) scrapes known p.0.sure r.retries.steps in
+    let p = large-known d (transfer old.stack old.out) r.failed r.between r.large sure in
+    let q = steps-known (scan_of t) (after_pass r.between.stack r.between.out r.failed) scrapes p.1 p.0.sure r.retries.steps in
     surveys-meant (marks r.left.map) d 0 r.left.stack r.rescues.reads new.stack r.rescues.survey (pass-scraped t.no_scrape _ r.rescues.reads scrapes r.rescues.pieces) q.1 q.0.sure
     ∙ left-states d old.stack r.left.stack 0 n (then-left d old.stack r.between.stack r.left.stack p.0 q.0)

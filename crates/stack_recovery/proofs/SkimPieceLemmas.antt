@@ -1,17 +1,16 @@
--- The pieces of the first pass, one after another.
+-- The pieces of a pass in large pieces, one after another.
 use Rattle.std.proofs.Common.{◌≡◌, ℕ, ◌+◌, Bool, IsTrue, List, [], ◌∷◌, ◌++◌, length, refl, sym, ap, ◌∙◌, subst, arith, append_assoc}
 use Rattle.std.proofs.lemmas.List.{append-nil, length-append}
 use Rattle.std.proofs.lemmas.List.Concat.{flat_map-append}
 use Rattle.block_device.specs.Call.{Call}
 use Rattle.block_device.specs.Device.{Device, IsWritten, sectors_of, spliced}
-use Rattle.stack_rules.specs.Names.{mapped, size}
 use Rattle.stack_engine.specs.Stacks.{StackRecord}
 use Rattle.stack_recovery.specs.Copies.{image_after}
 use Rattle.stack_recovery.specs.FirstPasses.{IsSkimCopied}
 use Rattle.stack_recovery.specs.Handing.{calls_found}
 use Rattle.stack_recovery.specs.PassPieces.{Pass}
-use Rattle.stack_recovery.specs.Skims.{AreSkims, IsSkimFound, IsSkimOver, Skim, marks_of, skim_calls, skim_image, skim_marks, skip_from}
-use Rattle.stack_recovery.specs.Skips.{most_skip, skip_after}
+use Rattle.stack_recovery.specs.Skims.{AreSkims, IsSkimFound, IsSkimOver, Skim, failed_of, marks_of, skim_calls, skim_failed, skim_image, skim_marks, skip_from}
+use Rattle.stack_recovery.specs.Skips.{skip_after}
 use Rattle.stack_recovery.specs.Surveys.{IsPieceSurveyed, had}
 use Rattle.stack_recovery.proofs.CopyLemmas.{same-device}
 
@@ -22,6 +21,9 @@ marks-after first x more = omega (arith, length-append {A = Bool} (marks_of x) (
 pub marks-push : (skims : List Skim) (s : Skim) → skim_marks (skims ++ s ∷ []) ≡ skim_marks skims ++ marks_of s
 marks-push skims s = flat_map-append marks_of skims (s ∷ []) ∙ ap (λ (l : List Bool). skim_marks skims ++ l) (append-nil (marks_of s))
 
+pub failed-push : (skims : List Skim) (s : Skim) → skim_failed (skims ++ s ∷ []) ≡ skim_failed skims ++ failed_of s
+failed-push skims s = flat_map-append failed_of skims (s ∷ []) ∙ ap (λ (l : List Bool). skim_failed skims ++ l) (append-nil (failed_of s))
+
 pub skim-push : (marks : List Bool) (d first : ℕ) (w : StackRecord) (skims : List Skim) (mid : StackRecord) (s : Skim) → IsSkimOver marks d first w skims mid
     → IsPieceSurveyed marks d (first + length (skim_marks skims)) mid s.piece → IsSkimOver marks d first w (skims ++ s ∷ []) s.piece.after
 skim-push marks d first w [] mid s h p =
@@ -30,15 +32,15 @@ skim-push marks d first w [] mid s h p =
 skim-push marks d first w (x ∷ more) mid s h p =
     (h.0, skim-push marks d (first + length (marks_of x)) x.piece.after more mid s h.1 (subst (λ (k : ℕ). IsPieceSurveyed marks d k mid s.piece) (marks-after first x more) p))
 
-pub skims-push : (p : Pass) (first wanted : ℕ) (skims : List Skim) (s : Skim) → AreSkims p first wanted skims
-    → IsSkimFound p (first + length (skim_marks skims)) (skip_from (most_skip (size p.config (mapped p.d))) wanted skims) s.piece.count s.piece.found s.skip → AreSkims p first wanted (skims ++ s ∷ [])
-skims-push p first wanted [] s h next =
+pub skims-push : (most : ℕ) (p : Pass) (first wanted : ℕ) (skims : List Skim) (s : Skim) → AreSkims most p first wanted skims
+    → IsSkimFound p (first + length (skim_marks skims)) (skip_from most wanted skims) s.piece.count s.piece.found s.skip → AreSkims most p first wanted (skims ++ s ∷ [])
+skims-push most p first wanted [] s h next =
     let at : first + 0 ≡ first = omega arith in
     (subst (λ (k : ℕ). IsSkimFound p k wanted s.piece.count s.piece.found s.skip) at next, tt)
-skims-push p first wanted (x ∷ more) s h next = (
+skims-push most p first wanted (x ∷ more) s h next = (
   h.0,
-  skims-push p (first + length (marks_of x)) (skip_after (most_skip (size p.config (mapped p.d))) wanted x.piece.found) more s h.1
-      (subst (λ (k : ℕ). IsSkimFound p k (skip_from (most_skip (size p.config (mapped p.d))) wanted (x ∷ more)) s.piece.count s.piece.found s.skip) (marks-after first x more) next),
+  skims-push most p (first + length (marks_of x)) (skip_after most wanted x.piece.found) more s h.1
+      (subst (λ (k : ℕ). IsSkimFound p k (skip_from most wanted (x ∷ more)) s.piece.count s.piece.found s.skip) (marks-after first x more) next),
 )
 
 pub skip-push : (most wanted : ℕ) (skims : List Skim) (s : Skim) → skip_from most wanted (skims ++ s ∷ []) ≡ skip_after most (skip_from most wanted skims) s.piece.found

@@ -1,9 +1,21 @@
 -- Pieces that are read one after another.
-use Rattle.std.proofs.Common.{◌≡◌, ℕ, ◌+◌, Bool, List, [], ◌∷◌, ◌++◌, length, refl, ap, ◌∙◌, subst, arith}
+use Rattle.std.proofs.Common.{◌≡◌, ℕ, ◌+◌, Bool, List, [], ◌∷◌, ◌++◌, length, Err, refl, ap, ◌∙◌, subst, arith}
 use Rattle.std.proofs.lemmas.List.{append-nil, length-append}
 use Rattle.std.proofs.lemmas.List.Concat.{flat_map-append}
+use Rattle.stack_rules.specs.Names.{mapped}
+use Rattle.stack_meaning.specs.declared.fault.IoFault.TheVariants.{NoMemory}
+use Rattle.stack_meaning.specs.Meaning.{said_at}
+use Rattle.stack_meaning.specs.Reading.{MeetVerity}
+use Rattle.stack_engine.specs.Bytes.{EachBytes}
 use Rattle.stack_engine.specs.Stacks.{StackRecord}
+use Rattle.stack_recovery.specs.Recoveries.{FindsNoMemory}
 use Rattle.stack_recovery.specs.Surveys.{IsPieceSurveyed, IsSurveyOver, PieceRead, SectorState, all_states, states_of}
+
+-- a read from that sector on ran out of memory
+pub no-memory : (d at count : ℕ) (w w' : StackRecord) → EachBytes w d at count (Err NoMemory) w' → MeetVerity (said_at w.config (mapped d)) at count → FindsNoMemory d at w w'
+no-memory d at count w w' read met =
+    let here : at ≡ at + 0 = omega arith in
+    record { behind = 0; count = count; answered = subst (λ (k : ℕ). EachBytes w d k count (Err NoMemory) w') here read; met = subst (λ (k : ℕ). MeetVerity (said_at w.config (mapped d)) k count) here met }
 
 pub states-push : (reads : List PieceRead) (r : PieceRead) → all_states (reads ++ r ∷ []) ≡ all_states reads ++ states_of r
 states-push reads r = flat_map-append states_of reads (r ∷ []) ∙ ap (λ (l : List SectorState). all_states reads ++ l) (append-nil (states_of r))

@@ -1,11 +1,10 @@
 -- A device that is scanned, while sectors are left.
-use Rattle.std.proofs.Common.{◌≡◌, ◌⊎◌, ℕ, ◌+◌, ◌-◌, ◌≤◌, ◌^◌, Bool, true, false, IsTrue, List, [], ◌∷◌, ◌++◌, length, replicate, Option, Some, None, is_some, Ok, Err, inl, inr, refl, sym, ap, ap₂, ◌∙◌, subst, arith}
+use Rattle.std.proofs.Common.{◌≡◌, ◌⊎◌, ℕ, ◌+◌, ◌-◌, ◌<◌, ◌≤◌, ◌^◌, Bool, true, false, IsTrue, List, [], ◌∷◌, ◌++◌, length, replicate, Option, Some, None, is_some, Ok, Err, inl, inr, refl, sym, ap, ap₂, ◌∙◌, subst, arith}
 use Rattle.std.proofs.lemmas.List.{append-nil, length-append, length-replicate}
 use Rattle.block_device.specs.Call.{Call, Write}
 use Rattle.block_device.specs.Device.{Device, HasFailed, IsWritten, sectors_of, spliced}
 use Rattle.stack_rules.specs.Names.{mapped, size}
 use Rattle.stack_meaning.specs.declared.fault.IoFault.{IoFault}
-use Rattle.stack_meaning.specs.declared.fault.IoFault.TheVariants.{NoMemory}
 use Rattle.stack_engine.specs.Bytes.{EachBytes}
 use Rattle.stack_engine.specs.Stacks.{StackRecord}
 use Rattle.rescue_map.specs.declared.map.Run.{Run}
@@ -14,32 +13,31 @@ use Rattle.stack_recovery.specs.declared.deadline.Deadline.{Deadline}
 use Rattle.stack_recovery.specs.declared.fault.RecoveryFault.{RecoveryFault}
 use Rattle.stack_recovery.specs.declared.fault.RecoveryFault.TheVariants as recovery
 use Rattle.runs.specs.Runs.{run}
-use Rattle.runs.specs.Tallies.{closed_by, listed, opened_by}
+use Rattle.runs.specs.Tallies.{closed_by, listed}
 use Rattle.stack_recovery.specs.LostRuns.{LostRun, is_same_loss, lost_count, lost_in, untried_count, untried_in}
 use Rattle.stack_recovery.specs.declared.recovery.Counts.{Counts}
 use Rattle.stack_recovery.specs.declared.lost_run.Loss.{Loss}
-use Rattle.stack_recovery.specs.declared.piece_limit.PieceLimit.{PieceLimit}
+use Rattle.stack_recovery.specs.declared.lost_run.Loss.TheVariants.{Lost}
 use Rattle.stack_recovery.specs.declared.tally.Tally.{Tally}
 use Rattle.stack_recovery.specs.Copies.{IsCopied}
 use Rattle.stack_recovery.specs.Deadlines.{EndsAt}
 use Rattle.stack_recovery.specs.Handing.{calls_found, copy_calls}
 use Rattle.stack_recovery.specs.Listings.{Listed, Tells}
-use Rattle.stack_recovery.specs.Losses.{StopsInPiece}
-use Rattle.stack_recovery.specs.PassPieces.{ArePassPieces, IsLossFound, IsNextPiece, IsPieceFound, IsReadAgain, Scanned, limit_after, limit_from, pass_over}
-use Rattle.stack_recovery.specs.PieceLimits.{limit_after_bytes, limit_after_loss, limit_of_run, limit_up_to}
+use Rattle.stack_recovery.specs.Losses.{NotesLost, StopsInRun, with_loss}
+use Rattle.stack_recovery.specs.PassPieces.{ArePassPieces, IsNextPiece, IsPieceFound, IsProbedTo, MayReadOn, Scanned, Trimming, backward, forward, pass_over, trimming_found, trimming_from}
 use Rattle.stack_recovery.specs.Recoveries.{EndsEarly, FailsOutput, FindsNoMemory, GoesOverUntil, IsBegunOver, AreLossesNoted, AreMarksNoted, IsMapRefused, NotesMore, RunsShort, Sides, counted_sectors, is_had, is_lost, sides}
-use Rattle.stack_recovery.specs.Surveys.{AreMarked, IsPieceSurveyed, IsSurveyOver, MayLose, PieceRead, SectorState, again, all_states, fault_of, had, kept, lost, states_of}
+use Rattle.stack_recovery.specs.Surveys.{AreMarked, IsPieceSurveyed, IsSurveyOver, MayLose, PieceRead, SectorState, all_states, had, kept, lost, probed, states_of}
 use Rattle.stack_recovery.proofs.AheadLemmas.{length-noted, noted-more}
 use Rattle.stack_recovery.proofs.CopyLemmas.{copied-had, copied-lost, copied-none}
 use Rattle.runs.proofs.lemmas.RunLemmas.{IsTallied, tallied-all, tallied-had, tallied-lost, tallied-none}
 use Rattle.stack_recovery.proofs.LostRunLemmas.{is_same-equality, lost_in-append, lost_in-had, lost_in-lost, lost_in-most, untried_in-append, untried_in-had, untried_in-lost}
-use Rattle.stack_recovery.proofs.PieceLemmas.{calls-push, limit-push, pieces-push}
+use Rattle.stack_recovery.proofs.PieceLemmas.{calls-push, pieces-push, trimming-push}
 use Rattle.stack_recovery.proofs.SurveyLemmas.{states-push, survey-push}
 use Rattle.stack_recovery.proofs.lemmas.WritingLemmas.{runs-then, tells_nothing}
 
--- The sectors before that one were had or are lost, and of their runs all but the last were printed. The next piece has that
--- limit, and those calls are the writes of the pieces.
-pub record IsUnderway (makes_map : Bool) (before : List Bool) (scan : Scanned) (old new : Sides) (at : ℕ) (tally : Tally) (made : Option (List Run)) (limit : PieceLimit) (calls : List Call) : Type 0 where
+-- The sectors before that one were had, are lost or unscraped, and of their runs all but the last were printed. The pass goes on so, and
+-- those calls are the writes of the pieces.
+pub record IsUnderway (makes_map : Bool) (before : List Bool) (scan : Scanned) (old new : Sides) (at : ℕ) (tally : Tally) (made : Option (List Run)) (t : Trimming) (calls : List Call) : Type 0 where
   pub reads : List PieceRead
   pub closed : List LostRun
   pub survey : IsSurveyOver before scan.d 0 old.stack reads new.stack
@@ -52,7 +50,7 @@ pub record IsUnderway (makes_map : Bool) (before : List Bool) (scan : Scanned) (
   pub noted : AreMarksNoted made (all_states reads)
   pub bad : AreLossesNoted made (all_states reads)
   pub pieces : ArePassPieces scan.no_scrape (pass_over old.stack.config scan.d before) reads
-  pub limited : limit ≡ limit_from scan.no_scrape (limit_of_run 0) 0 reads
+  pub goes_on : t ≡ trimming_from scan.no_scrape forward 0 reads
   pub written : calls ≡ copy_calls 0 reads
 
 -- the counts of a tally, of so many sectors
@@ -65,9 +63,14 @@ closed-tally old new closed same_lost same_untried =
     ap₂ {C = Tally} (λ (l : Option LostRun) (m : ℕ). record { last = l; lost = m; untried = new.untried }) closed same_lost
     ∙ ap (λ (t : ℕ). record { last = None; lost = old.lost; untried = t }) same_untried
 
-pub underway-none : (makes_map : Bool) (before : List Bool) (scan : Scanned) (old : Sides) (noted : Option (List Run)) (limit : PieceLimit) → AreMarksNoted noted [] → AreLossesNoted noted [] → limit ≡ limit_of_run 0
-    → IsUnderway makes_map before scan old old 0 (record { last = None; lost = 0; untried = 0 }) noted limit []
-underway-none makes_map before scan old noted limit p q first = record {
+-- a pass that ends at the last sector, or where it reads on
+pub ended-on : (turns : Bool) (t : Trimming) (at sectors end : ℕ) → at ≤ sectors → end ≤ at → (turns ≡ true → sectors ≤ end) → (turns ≡ false → MayReadOn t at) → (at ≡ sectors) ⊎ MayReadOn t at
+ended-on true t at sectors end within below whole on = inl (omega (arith, within, below, whole refl))
+ended-on false t at sectors end within below whole on = inr (on refl)
+
+pub underway-none : (makes_map : Bool) (before : List Bool) (scan : Scanned) (old : Sides) (noted : Option (List Run)) → AreMarksNoted noted [] → AreLossesNoted noted []
+    → IsUnderway makes_map before scan old old 0 (record { last = None; lost = 0; untried = 0 }) noted forward []
+underway-none makes_map before scan old noted p q = record {
   reads = [];
   closed = [];
   survey = refl;
@@ -80,11 +83,11 @@ underway-none makes_map before scan old noted limit p q first = record {
   noted = p;
   bad = q;
   pieces = tt;
-  limited = first;
+  goes_on = refl;
   written = refl;
 }
 
-module _ (makes_map : Bool) (before : List Bool) (scan : Scanned) (old now : Sides) (at : ℕ) (tally : Tally) (noted : Option (List Run)) (limit : PieceLimit) (calls : List Call) (u : IsUnderway makes_map before scan old now at tally noted limit calls) where
+module _ (makes_map : Bool) (before : List Bool) (scan : Scanned) (old now : Sides) (at : ℕ) (tally : Tally) (noted : Option (List Run)) (t : Trimming) (calls : List Call) (u : IsUnderway makes_map before scan old now at tally noted t calls) where
   -- its runs are the first of those of the sectors so far
   pub begun : (stack : StackRecord) (out : Device) → IsBegunOver before scan old (sides stack out now.printed)
   begun stack out = record {
@@ -125,17 +128,12 @@ module _ (makes_map : Bool) (before : List Bool) (scan : Scanned) (old now : Sid
     sure = sure;
   }
 
-  memory-read : (stack : StackRecord) (fault : IoFault) → is_some noted ≡ makes_map → (fault ≡ NoMemory → FindsNoMemory scan.d at now.stack stack)
-      → (fault ≡ NoMemory) ⊎ IsMapRefused (is_some noted) → FindsNoMemory scan.d at now.stack stack ⊎ IsMapRefused makes_map
-  memory-read stack fault same read (inl is) = inl (read is)
-  memory-read stack fault same read (inr map) = inr (sym same ∙ map.0, map.1)
-
-  -- it ended in a piece that wasn't read
-  pub ends-in-piece : {L : Type 0} (told : L → Listed) (stack : StackRecord) (fault : IoFault) (a b : L) (error : RecoveryFault) → now.printed ≡ told a → now.out.failures ≡ old.out.failures → is_some noted ≡ makes_map
-      → (fault ≡ NoMemory → FindsNoMemory scan.d at now.stack stack) → StopsInPiece fault (is_some noted) a b error → EndsEarly makes_map before scan old (sides stack now.out (told b)) error
-  ends-in-piece told stack fault a b recovery.NoMemory printed unfailed same read p =
-      subst (λ (t : Listed). RunsShort makes_map before scan old (sides stack now.out t)) (printed ∙ ap told (sym p.1)) (runs-short stack unfailed (memory-read stack fault same read p.0))
-  ends-in-piece told stack fault a b recovery.Output printed unfailed same read p = absurd p
+  -- memory for the map was refused
+  pub ends-in-run : {L : Type 0} (told : L → Listed) (stack : StackRecord) (a b : L) (error : RecoveryFault) → now.printed ≡ told a → now.out.failures ≡ old.out.failures → is_some noted ≡ makes_map
+      → StopsInRun (is_some noted) a b error → EndsEarly makes_map before scan old (sides stack now.out (told b)) error
+  ends-in-run told stack a b recovery.NoMemory printed unfailed same p =
+      subst (λ (l : Listed). RunsShort makes_map before scan old (sides stack now.out l)) (printed ∙ ap told (sym p.1)) (runs-short stack unfailed (inr (sym same ∙ p.0.0, p.0.1)))
+  ends-in-run told stack a b recovery.Output printed unfailed same p = absurd p
 
   pub few : tally.lost + tally.untried ≤ at
   few = omega (arith, u.here, u.lost, u.untried, lost_in-most (all_states u.reads))
@@ -145,26 +143,24 @@ module _ (makes_map : Bool) (before : List Bool) (scan : Scanned) (old now : Sid
   note-room n room runs e =
       omega (arith, room, u.here, length-noted runs (all_states u.reads) (subst (λ (m : Option (List Run)). AreMarksNoted m (all_states u.reads)) e u.noted))
 
-  next-survey : (r : PieceRead) → IsPieceSurveyed before scan.d at now.stack r → IsSurveyOver before scan.d 0 old.stack (u.reads ++ r ∷ []) r.after
+  pub next-survey : (r : PieceRead) → IsPieceSurveyed before scan.d at now.stack r → IsSurveyOver before scan.d 0 old.stack (u.reads ++ r ∷ []) r.after
   next-survey r p =
       let here : at ≡ 0 + length (all_states u.reads) = omega (arith, u.here) in
       survey-push before scan.d 0 old.stack u.reads now.stack r u.survey (subst (λ (k : ℕ). IsPieceSurveyed before scan.d k now.stack r) here p)
 
-  next-pieces : (r : PieceRead) → IsPieceFound scan.no_scrape (pass_over old.stack.config scan.d before) at limit r.count r.found → ArePassPieces scan.no_scrape (pass_over old.stack.config scan.d before) (u.reads ++ r ∷ [])
+  pub next-pieces : (r : PieceRead) → IsPieceFound (pass_over old.stack.config scan.d before) at t r.count r.found → ArePassPieces scan.no_scrape (pass_over old.stack.config scan.d before) (u.reads ++ r ∷ [])
   next-pieces r h =
       let here : at ≡ 0 + length (all_states u.reads) = omega (arith, u.here) in
-      pieces-push scan.no_scrape (pass_over old.stack.config scan.d before) 0 (limit_of_run 0) u.reads r u.pieces
-      (subst (λ (l : PieceLimit). IsPieceFound scan.no_scrape (pass_over old.stack.config scan.d before) (0 + length (all_states u.reads)) l r.count r.found) u.limited
-      (subst (λ (k : ℕ). IsPieceFound scan.no_scrape (pass_over old.stack.config scan.d before) k limit r.count r.found) here h))
+      pieces-push scan.no_scrape (pass_over old.stack.config scan.d before) 0 forward u.reads r u.pieces
+      (subst (λ (l : Trimming). IsPieceFound (pass_over old.stack.config scan.d before) (0 + length (all_states u.reads)) l r.count r.found) u.goes_on
+      (subst (λ (k : ℕ). IsPieceFound (pass_over old.stack.config scan.d before) k t r.count r.found) here h))
 
-  next-limit : (r : PieceRead) → limit_after scan.no_scrape limit at r ≡ limit_from scan.no_scrape (limit_of_run 0) 0 (u.reads ++ r ∷ [])
-  next-limit r =
+  pub next-goes : (r : PieceRead) → trimming_found scan.no_scrape at r.found ≡ trimming_from scan.no_scrape forward 0 (u.reads ++ r ∷ [])
+  next-goes r =
       let here : at ≡ 0 + length (all_states u.reads) = omega (arith, u.here) in
-      ap (λ (l : PieceLimit). limit_after scan.no_scrape l at r) u.limited
-      ∙ ap (λ (k : ℕ). limit_after scan.no_scrape (limit_from scan.no_scrape (limit_of_run 0) 0 u.reads) k r) here
-      ∙ sym (limit-push scan.no_scrape (limit_of_run 0) 0 u.reads r)
+      ap (λ (k : ℕ). trimming_found scan.no_scrape k r.found) here ∙ sym (trimming-push scan.no_scrape forward 0 u.reads r)
 
-  next-calls : (r : PieceRead) → calls ++ calls_found at r.found ≡ copy_calls 0 (u.reads ++ r ∷ [])
+  pub next-calls : (r : PieceRead) → calls ++ calls_found at r.found ≡ copy_calls 0 (u.reads ++ r ∷ [])
   next-calls r =
       let here : at ≡ 0 + length (all_states u.reads) = omega (arith, u.here) in
       ap (λ (l : List Call). l ++ calls_found at r.found) u.written
@@ -172,14 +168,14 @@ module _ (makes_map : Bool) (before : List Bool) (scan : Scanned) (old now : Sid
       ∙ sym (calls-push 0 u.reads r)
 
   -- a piece that was had, written, and told
-  pub underway-had : (n : ℕ) (bytes : List ℕ) (stack : StackRecord) (k : ℕ) (ok : Bool) (out : Device) (printed : Listed) (next : Tally) (more : Option (List Run)) (after : PieceLimit) → IsNextPiece (pass_over old.stack.config scan.d before) at limit.most n → after ≡ limit_after_bytes limit n (at + n)
+  pub underway-had : (n : ℕ) (bytes : List ℕ) (stack : StackRecord) (k : ℕ) (ok : Bool) (out : Device) (printed : Listed) (next : Tally) (more : Option (List Run)) → MayReadOn t at → IsNextPiece (pass_over old.stack.config scan.d before) at 1 n
       → 1 ≤ n → EachBytes now.stack scan.d at n (Ok bytes) stack → AreMarked before at n false → NotesMore marks noted more (replicate n true) → NotesMore losts noted more (replicate n false) → k ≡ n
       → IsWritten now.out at k ok out → (IsTrue now.out.steady → out.image ≡ spliced now.out.image at (sectors_of k bytes))
-      → Tells now.printed printed (listed tally.last) → next ≡ record { last = None; lost = tally.lost; untried = tally.untried } → IsUnderway makes_map before scan old (sides stack out printed) (at + n) next more after (calls ++ Write at bytes true ∷ [])
-  underway-had n bytes stack k ok out printed next more after piece grown some p marked noting noting' count w image told is =
+      → Tells now.printed printed (listed tally.last) → next ≡ record { last = None; lost = tally.lost; untried = tally.untried } → IsUnderway makes_map before scan old (sides stack out printed) (at + n) next more forward (calls ++ Write at bytes true ∷ [])
+  underway-had n bytes stack k ok out printed next more may piece some p marked noting noting' count w image told is =
       let r : PieceRead = record { count = n; found = had bytes; after = stack } in
       let states : all_states (u.reads ++ r ∷ []) ≡ all_states u.reads ++ replicate n None = states-push u.reads r in
-      subst (λ (t : Tally). IsUnderway makes_map before scan old (sides stack out printed) (at + n) t more after (calls ++ Write at bytes true ∷ [])) (sym is) (record {
+      subst (λ (l : Tally). IsUnderway makes_map before scan old (sides stack out printed) (at + n) l more forward (calls ++ Write at bytes true ∷ [])) (sym is) (record {
         reads = u.reads ++ r ∷ [];
         closed = u.closed ++ listed tally.last;
         survey = next-survey r (record { answered = p; may = tt; marked = marked });
@@ -191,18 +187,18 @@ module _ (makes_map : Bool) (before : List Bool) (scan : Scanned) (old now : Sid
         printed = runs-then old.printed now.printed printed u.closed (listed tally.last) u.printed told;
         noted = rw states (noted-more marks is_had noted more (all_states u.reads) n None u.noted noting);
         bad = rw states (noted-more losts is_lost noted more (all_states u.reads) n None u.bad noting');
-        pieces = next-pieces r piece;
-        limited = grown ∙ next-limit r;
+        pieces = next-pieces r (may, piece);
+        goes_on = next-goes r;
         written = next-calls r;
       })
 
   -- sectors that were had before
-  pub underway-kept : (n : ℕ) (printed : Listed) (next : Tally) (more : Option (List Run)) (after : PieceLimit) → after ≡ limit_of_run (at + n) → 1 ≤ n → AreMarked before at n true → NotesMore marks noted more (replicate n true) → NotesMore losts noted more (replicate n false)
-      → Tells now.printed printed (listed tally.last) → next ≡ record { last = None; lost = tally.lost; untried = tally.untried } → IsUnderway makes_map before scan old (sides now.stack now.out printed) (at + n) next more after calls
-  underway-kept n printed next more after begins some marked noting noting' told is =
+  pub underway-kept : (n : ℕ) (printed : Listed) (next : Tally) (more : Option (List Run)) → 1 ≤ n → AreMarked before at n true → NotesMore marks noted more (replicate n true) → NotesMore losts noted more (replicate n false)
+      → Tells now.printed printed (listed tally.last) → next ≡ record { last = None; lost = tally.lost; untried = tally.untried } → IsUnderway makes_map before scan old (sides now.stack now.out printed) (at + n) next more forward calls
+  underway-kept n printed next more some marked noting noting' told is =
       let r : PieceRead = record { count = n; found = kept; after = now.stack } in
       let states : all_states (u.reads ++ r ∷ []) ≡ all_states u.reads ++ replicate n None = states-push u.reads r in
-      subst (λ (t : Tally). IsUnderway makes_map before scan old (sides now.stack now.out printed) (at + n) t more after calls) (sym is) (record {
+      subst (λ (l : Tally). IsUnderway makes_map before scan old (sides now.stack now.out printed) (at + n) l more forward calls) (sym is) (record {
         reads = u.reads ++ r ∷ [];
         closed = u.closed ++ listed tally.last;
         survey = next-survey r (record { answered = refl; may = some; marked = marked });
@@ -215,45 +211,47 @@ module _ (makes_map : Bool) (before : List Bool) (scan : Scanned) (old now : Sid
         noted = rw states (noted-more marks is_had noted more (all_states u.reads) n None u.noted noting);
         bad = rw states (noted-more losts is_lost noted more (all_states u.reads) n None u.bad noting');
         pieces = next-pieces r tt;
-        limited = begins ∙ next-limit r;
+        goes_on = next-goes r;
         written = sym (append-nil calls) ∙ next-calls r;
       })
 
   -- a piece that is lost, and told
-  pub underway-lost : (n : ℕ) (loss : Loss) (stack : StackRecord) (printed : Listed) (next : Tally) (more : Option (List Run)) (after : PieceLimit) → IsNextPiece (pass_over old.stack.config scan.d before) at limit.most n → IsLossFound scan.no_scrape limit at n loss → after ≡ limit_after_loss scan.no_scrape limit (at + n)
-      → 1 ≤ n → EachBytes now.stack scan.d at n (Err (fault_of loss)) stack → AreMarked before at n false → NotesMore marks noted more (replicate n false) → NotesMore losts noted more (replicate n (is_lost (Some loss))) → MayLose now.stack.config scan.d at n loss
-      → Tells now.printed printed (closed_by is_same_loss tally.last (run at n loss)) → next ≡ record { last = Some (opened_by is_same_loss tally.last (run at n loss)); lost = tally.lost + lost_count loss n; untried = tally.untried + untried_count loss n }
-      → IsUnderway makes_map before scan old (sides stack now.out printed) (at + n) next more after calls
-  underway-lost n loss stack printed next more after piece found grown some p marked noting noting' may told is =
-      let r : PieceRead = record { count = n; found = lost loss; after = stack } in
+  pub underway-lost : (n : ℕ) (fault : IoFault) (stack : StackRecord) (printed : Listed) (next : Tally) (more : Option (List Run)) → MayReadOn t at → IsNextPiece (pass_over old.stack.config scan.d before) at 1 n
+      → 1 ≤ n → EachBytes now.stack scan.d at n (Err fault) stack → AreMarked before at n false → NotesLost (run at n (Lost fault)) noted more → MayLose now.stack.config scan.d at n fault
+      → Tells now.printed printed (closed_by is_same_loss tally.last (run at n (Lost fault))) → next ≡ with_loss tally (run at n (Lost fault))
+      → IsUnderway makes_map before scan old (sides stack now.out printed) (at + n) next more (trimming_found scan.no_scrape at (lost fault)) calls
+  underway-lost n fault stack printed next more may piece some p marked noting lose told is =
+      let r : PieceRead = record { count = n; found = lost fault; after = stack } in
+      let loss : Loss = Lost fault in
       let states : all_states (u.reads ++ r ∷ []) ≡ all_states u.reads ++ replicate n (Some loss) = states-push u.reads r in
-      subst (λ (t : Tally). IsUnderway makes_map before scan old (sides stack now.out printed) (at + n) t more after calls) (sym is) (record {
+      subst (λ (l : Tally). IsUnderway makes_map before scan old (sides stack now.out printed) (at + n) l more (trimming_found scan.no_scrape at (lost fault)) calls) (sym is) (record {
         reads = u.reads ++ r ∷ [];
         closed = u.closed ++ closed_by is_same_loss tally.last (run at n loss);
-        survey = next-survey r (record { answered = p; may = may; marked = marked });
+        survey = next-survey r (record { answered = p; may = lose; marked = marked });
         here = omega (arith, u.here, ap length states, length-append (all_states u.reads) (states_of r), length-replicate {A = SectorState} n (Some loss));
         tallied = rw states (tallied-lost is_same_loss is_same-equality (all_states u.reads) u.closed tally.last at n loss u.here some u.tallied);
         lost = ap (λ (m : ℕ). m + lost_count loss n) u.lost ∙ sym (ap lost_in states ∙ lost_in-append (all_states u.reads) (states_of r) ∙ ap (λ (m : ℕ). lost_in (all_states u.reads) + m) (lost_in-lost n loss));
         untried = ap (λ (m : ℕ). m + untried_count loss n) u.untried ∙ sym (ap untried_in states ∙ untried_in-append (all_states u.reads) (states_of r) ∙ ap (λ (m : ℕ). untried_in (all_states u.reads) + m) (untried_in-lost n loss));
         copied = copied-lost u.reads r old.out now.out (λ first m image. refl) u.copied;
         printed = runs-then old.printed now.printed printed u.closed (closed_by is_same_loss tally.last (run at n loss)) u.printed told;
-        noted = rw states (noted-more marks is_had noted more (all_states u.reads) n (Some loss) u.noted noting);
-        bad = rw states (noted-more losts is_lost noted more (all_states u.reads) n (Some loss) u.bad noting');
-        pieces = next-pieces r (piece, found);
-        limited = grown ∙ next-limit r;
+        noted = rw states (noted-more marks is_had noted more (all_states u.reads) n (Some loss) u.noted noting.0);
+        bad = rw states (noted-more losts is_lost noted more (all_states u.reads) n (Some loss) u.bad noting.1);
+        pieces = next-pieces r (may, piece);
+        goes_on = next-goes r;
         written = sym (append-nil calls) ∙ next-calls r;
       })
 
-  -- a piece that is read again
-  pub underway-again : (n : ℕ) (fault : IoFault) (stack : StackRecord) (after : PieceLimit) → IsNextPiece (pass_over old.stack.config scan.d before) at limit.most n → IsReadAgain scan.no_scrape limit at n → after ≡ limit_up_to (at + n)
-      → EachBytes now.stack scan.d at n (Err fault) stack → AreMarked before at n false → IsUnderway makes_map before scan old (sides stack now.out now.printed) at tally noted after calls
-  underway-again n fault stack after piece small grown p marked =
-      let r : PieceRead = record { count = n; found = again fault; after = stack } in
+  -- a piece behind these sectors that was read, and isn't used
+  pub underway-probed : (behind n : ℕ) (bytes : List ℕ) (stack : StackRecord) → IsProbedTo (pass_over old.stack.config scan.d before) at t (at + n) → behind < n
+      → EachBytes now.stack scan.d (at + behind) (n - behind) (Ok bytes) stack → AreMarked before at n false
+      → IsUnderway makes_map before scan old (sides stack now.out now.printed) at tally noted (backward (at + behind)) calls
+  underway-probed behind n bytes stack ends some p marked =
+      let r : PieceRead = record { count = n; found = probed behind bytes; after = stack } in
       let states : all_states (u.reads ++ r ∷ []) ≡ all_states u.reads = states-push u.reads r ∙ append-nil (all_states u.reads) in
       record {
         reads = u.reads ++ r ∷ [];
         closed = u.closed;
-        survey = next-survey r (record { answered = p; may = tt; marked = marked });
+        survey = next-survey r (record { answered = p; may = some; marked = marked });
         here = u.here ∙ sym (ap length states);
         tallied = rw states u.tallied;
         lost = u.lost ∙ sym (ap lost_in states);
@@ -262,8 +260,8 @@ module _ (makes_map : Bool) (before : List Bool) (scan : Scanned) (old now : Sid
         printed = u.printed;
         noted = rw states u.noted;
         bad = rw states u.bad;
-        pieces = next-pieces r (piece, small);
-        limited = grown ∙ next-limit r;
+        pieces = next-pieces r ends;
+        goes_on = next-goes r;
         written = sym (append-nil calls) ∙ next-calls r;
       }
 
@@ -273,13 +271,15 @@ module _ (makes_map : Bool) (before : List Bool) (scan : Scanned) (old now : Sid
 
   -- the pass ended here
   pub underway-until : (deadline : Option Deadline) (printed : Listed) (sectors : ℕ) (counts : Counts) → EndsAt deadline at sectors → sectors ≡ size old.stack.config (mapped scan.d) → Tells now.printed printed (listed tally.last)
-      → counts ≡ tally_counts at tally → now.out.failures ≡ old.out.failures → is_some noted ≡ makes_map → GoesOverUntil deadline before scan old counts noted (sides now.stack now.out printed)
-  underway-until deadline printed sectors counts ends all told is unfailed same = record {
+      → counts ≡ tally_counts at tally → now.out.failures ≡ old.out.failures → is_some noted ≡ makes_map → (at ≡ sectors) ⊎ MayReadOn t at → GoesOverUntil deadline before scan old counts noted (sides now.stack now.out printed)
+  underway-until deadline printed sectors counts ends all told is unfailed same on = record {
     goes = record {
       reads = u.reads;
       survey = u.survey;
       whole = sym u.here ∙ counted-all counts is;
       pieces = u.pieces;
+      trims = subst (λ (n : ℕ). (n ≡ size old.stack.config (mapped scan.d)) ⊎ MayReadOn (trimming_from scan.no_scrape forward 0 u.reads) n) (counted-all counts is)
+          (subst (λ (l : Trimming). (at ≡ size old.stack.config (mapped scan.d)) ⊎ MayReadOn l at) u.goes_on (subst (λ (n : ℕ). (at ≡ n) ⊎ MayReadOn t at) all on));
       copied = u.copied;
       unfailed = unfailed;
       printed = rw (tallied-all is_same_loss is_same-equality (all_states u.reads) u.closed tally.last u.tallied) (runs-then old.printed now.printed printed u.closed (listed tally.last) u.printed told);

@@ -1,4 +1,4 @@
--- The effects of the first pass over a mapped device.
+-- The effects of a pass over a mapped device in large pieces.
 use Rattle.std.specs.Prelude.{◌≡◌, ◌⊎◌, ℕ, Bool, false, IsTrue, List, ◌++◌, length, replicate, Option, Ok}
 use Rattle.allocation.specs.Refusal.{IsOutOfMemory}
 use Rattle.block_device.specs.Call.{Call, Calls}
@@ -18,8 +18,7 @@ use Rattle.stack_recovery.specs.Deadlines.{EndsAt}
 use Rattle.stack_recovery.specs.Handing.{IsLastCall}
 use Rattle.stack_recovery.specs.PassPieces.{pass_over}
 use Rattle.stack_recovery.specs.Recoveries.{FindsNoMemory}
-use Rattle.stack_recovery.specs.Skims.{AreSkims, IsSkimOver, Skim, skim_calls, skim_image, skim_marks, skip_from}
-use Rattle.stack_recovery.specs.Skips.{most_skip}
+use Rattle.stack_recovery.specs.Skims.{AreSkims, IsSkimOver, Skim, skim_calls, skim_failed, skim_image, skim_marks, skip_from}
 
 -- a stack, and the output device that its sectors are copied to
 pub record Transfer (O : Type 0) : Type 0 where
@@ -45,47 +44,57 @@ pub record IsSkimCopied (skims : List Skim) (old new : Device) : Type 0 where
   pub same : IsSameDevice old new
   pub image : IsTrue old.steady → new.image ≡ skim_image 0 skims old.image
 
--- The first pass over the sectors of device d before `end`, in whose map the sectors are marked that were read, now or before, and
--- none is bad. The sectors that were read now were copied. After the first failed read `wanted` sectors are skipped, and after the next failed one
--- those of the result.
-pub record SkimsTo (wanted : ℕ) (before : List Bool) (d end : ℕ) (old : Transfer Device) (made : Skimmed) (new : Transfer Device) : Type 0 where
+-- how many sectors are skipped at most, and how many after the first failed read
+pub record Skipping : Type 0 where
+  pub most : ℕ
+  pub wanted : ℕ
+
+abbrev pub skipping : ℕ → ℕ → Skipping
+skipping most wanted = record { most = most; wanted = wanted }
+
+abbrev pub skipping_of : FirstPass → Skipping
+skipping_of pass = skipping pass.most pass.skip
+
+-- Such a pass over the sectors of device d before `end`, in whose map the sectors are marked that were read, now or before, and
+-- those of failed pieces are bad. The sectors that were read now were copied. After the next failed read the sectors of the result are skipped.
+pub record SkimsTo (skipping : Skipping) (before : List Bool) (d end : ℕ) (old : Transfer Device) (made : Skimmed) (new : Transfer Device) : Type 0 where
   pub skims : List Skim
   pub survey : IsSkimOver before d 0 old.stack skims new.stack
   pub whole : length (skim_marks skims) ≡ end
-  pub pieces : AreSkims (pass_over old.stack.config d before) 0 wanted skims
-  pub skipping : made.skip ≡ skip_from (most_skip (size old.stack.config (mapped d))) wanted skims
+  pub pieces : AreSkims skipping.most (pass_over old.stack.config d before) 0 skipping.wanted skims
+  pub next : made.skip ≡ skip_from skipping.most skipping.wanted skims
   pub copied : IsSkimCopied skims old.out new.out
   pub unfailed : new.out.failures ≡ old.out.failures
   pub noted : marks made.map ≡ skim_marks skims
-  pub unfound : losts made.map ≡ replicate end false
+  pub failed : losts made.map ≡ skim_failed skims
 
--- the first pass over all sectors
-abbrev pub Skims : ℕ → List Bool → ℕ → Transfer Device → Skimmed → Transfer Device → Type 0
-Skims wanted before d old made new = SkimsTo wanted before d (size old.stack.config (mapped d)) old made new
+-- the pass over all sectors
+abbrev pub Skims : Skipping → List Bool → ℕ → Transfer Device → Skimmed → Transfer Device → Type 0
+Skims skipping before d old made new = SkimsTo skipping before d (size old.stack.config (mapped d)) old made new
 
--- the first pass over the sectors of its map, which ended there
-pub record SkimsUntil (deadline : Option Deadline) (wanted : ℕ) (before : List Bool) (d : ℕ) (old : Transfer Device) (made : Skimmed) (new : Transfer Device) : Type 0 where
-  pub reads : SkimsTo wanted before d (length (marks made.map)) old made new
+-- the pass over the sectors of its map, which ended there
+pub record SkimsUntil (deadline : Option Deadline) (skipping : Skipping) (before : List Bool) (d : ℕ) (old : Transfer Device) (made : Skimmed) (new : Transfer Device) : Type 0 where
+  pub reads : SkimsTo skipping before d (length (marks made.map)) old made new
   pub ends : EndsAt deadline (length (marks made.map)) (size old.stack.config (mapped d))
 
 -- the first pieces of the pass were read
-pub record IsSkimBegun (wanted : ℕ) (before : List Bool) (d : ℕ) (old : StackRecord) : Type 0 where
+pub record IsSkimBegun (skipping : Skipping) (before : List Bool) (d : ℕ) (old : StackRecord) : Type 0 where
   pub skims : List Skim
   pub left : StackRecord
   pub survey : IsSkimOver before d 0 old skims left
-  pub pieces : AreSkims (pass_over old.config d before) 0 wanted skims
+  pub pieces : AreSkims skipping.most (pass_over old.config d before) 0 skipping.wanted skims
 
 -- Memory ran out for a read or for the map. The sectors read so far are copied, and the output device didn't fail.
-pub record SkimsShort (wanted : ℕ) (before : List Bool) (d : ℕ) (old new : Transfer Device) : Type 0 where
-  pub begun : IsSkimBegun wanted before d old.stack
+pub record SkimsShort (skipping : Skipping) (before : List Bool) (d : ℕ) (old new : Transfer Device) : Type 0 where
+  pub begun : IsSkimBegun skipping before d old.stack
   pub copied : IsSkimCopied begun.skims old.out new.out
   pub unfailed : new.out.failures ≡ old.out.failures
   pub refused : FindsNoMemory d (length (skim_marks begun.skims)) begun.left new.stack ⊎ IsOutOfMemory 1
 
 -- A write of the output device failed. The sectors read before are copied. Of a steady device no sector differs from that but
 -- those of the piece that was being written.
-pub record FailsSkimOutput (wanted : ℕ) (before : List Bool) (d : ℕ) (old new : Transfer Device) : Type 0 where
-  pub begun : IsSkimBegun wanted before d old.stack
+pub record FailsSkimOutput (skipping : Skipping) (before : List Bool) (d : ℕ) (old new : Transfer Device) : Type 0 where
+  pub begun : IsSkimBegun skipping before d old.stack
   pub out : Device
   pub n : ℕ
   pub bytes : List ℕ
@@ -96,9 +105,9 @@ pub record FailsSkimOutput (wanted : ℕ) (before : List Bool) (d : ℕ) (old ne
   pub sure : IsTrue old.out.never_fails → ⊥
 
 -- why the pass ended early
-abbrev pub EndsSkim : ℕ → List Bool → ℕ → Transfer Device → Transfer Device → RecoveryFault → Type 0
-EndsSkim wanted before d old new NoMemory = SkimsShort wanted before d old new
-EndsSkim wanted before d old new Output = FailsSkimOutput wanted before d old new
+abbrev pub EndsSkim : Skipping → List Bool → ℕ → Transfer Device → Transfer Device → RecoveryFault → Type 0
+EndsSkim skipping before d old new NoMemory = SkimsShort skipping before d old new
+EndsSkim skipping before d old new Output = FailsSkimOutput skipping before d old new
 
 -- ---- the calls on the output device
 
@@ -129,7 +138,7 @@ pub record HandsSkimsPart {O : Type 0} (Did : O → Call → O → Type 0) (befo
 -- ---- in terms of the arguments of a call
 
 abbrev pub SkimsBy : {O : Type 0} → (O → Device) → FirstPass → List Bool → Transfer O → Transfer O → Skimmed → Type 0
-SkimsBy state pass before old new made = SkimsUntil pass.deadline pass.skip before pass.device.0 (seen_transfer state old) made (seen_transfer state new)
+SkimsBy state pass before old new made = SkimsUntil pass.deadline (skipping_of pass) before pass.device.0 (seen_transfer state old) made (seen_transfer state new)
 
 abbrev pub EndsSkimBy : {O : Type 0} → (O → Device) → FirstPass → List Bool → Transfer O → Transfer O → RecoveryFault → Type 0
-EndsSkimBy state pass before old new fault = EndsSkim pass.skip before pass.device.0 (seen_transfer state old) (seen_transfer state new) fault
+EndsSkimBy state pass before old new fault = EndsSkim (skipping_of pass) before pass.device.0 (seen_transfer state old) (seen_transfer state new) fault

@@ -1,9 +1,12 @@
--- The lost runs that a pass found, among the bad sectors that it left.
-use Rattle.std.specs.Prelude.{◌≡◌, ℕ, suc, ◌+◌, ◌<◌, ◌≤◌, nat_le, nat_lt, Bool, not, ◌&&◌, List, [], ◌∷◌, Some, None, Option, if◌then◌else◌}
+-- The lost runs that a pass found, among the sectors that its map doesn't mark as recovered, with those that an earlier pass found.
+use Rattle.std.specs.Prelude.{◌≡◌, ℕ, suc, ◌+◌, ◌<◌, ◌≤◌, nat_le, nat_lt, List, [], ◌∷◌, Some, None, Option, if◌then◌else◌}
+use Rattle.rescue_map.specs.declared.status.Status.{Status}
+use Rattle.rescue_map.specs.declared.status.Status.TheVariants.{Bad, Recovered}
 use Rattle.runs.specs.Runs.{run}
 use Rattle.runs.specs.Tallies.{closed_by, listed, opened_by}
 use Rattle.stack_meaning.specs.declared.fault.IoFault.TheVariants.{Device}
-use Rattle.stack_recovery.specs.declared.lost_run.Loss.TheVariants.{Lost}
+use Rattle.stack_recovery.specs.declared.lost_run.Loss.{Loss}
+use Rattle.stack_recovery.specs.declared.lost_run.Loss.TheVariants.{Lost, Unscraped}
 use Rattle.stack_recovery.specs.LostRuns.{LostRun, is_same_loss}
 use Rattle.stack_recovery.specs.Surveys.{SectorState}
 
@@ -12,23 +15,34 @@ abbrev pub state_in : List LostRun → ℕ → SectorState
 state_in [] s = None
 state_in (r ∷ more) s = if nat_lt s (r.first + r.count) then (if nat_le r.first s then Some r.kind else None) else state_in more s
 
--- a sector that is in no run, and is known to be lost, has the fault of binding 0, since a map has none
-abbrev pub or_known : Bool → SectorState → SectorState
-or_known known None = if known then Some (Lost (Device 0)) else None
-or_known known (Some loss) = Some loss
+-- why a sector of a status wasn't recovered: as an earlier pass found, or by the fault of binding 0, since a map has none
+abbrev pub loss_before : Status → SectorState → Loss
+loss_before Bad None = Lost (Device 0)
+loss_before other None = Unscraped (Device 0)
+loss_before status (Some loss) = loss
 
--- the state of a sector by runs, or as a bad sector that isn't read again
-abbrev pub joined_state : Bool → Bool → List LostRun → ℕ → SectorState
-joined_state again bad runs s = or_known (bad && not again) (state_in runs s)
+-- the state of a sector of a status by an earlier pass and by the last one, which may not have read it
+abbrev pub or_before : Status → SectorState → SectorState → SectorState
+or_before status before (Some loss) = Some loss
+or_before Recovered before None = None
+or_before status before None = Some (loss_before status before)
 
--- the states of the sectors from one on, of which these are bad
-abbrev pub joined_states : Bool → ℕ → List Bool → List LostRun → List SectorState
-joined_states again at [] runs = []
-joined_states again at (bad ∷ more) runs = joined_state again bad runs at ∷ joined_states again (suc at) more runs
+-- the state of a sector by its status and the runs of an earlier pass and of the last one
+abbrev pub joined_state : Status → List LostRun → List LostRun → ℕ → SectorState
+joined_state status earlier runs s = or_before status (state_in earlier s) (state_in runs s)
 
--- n sectors from one on have this state
-abbrev pub HaveState : Bool → Bool → List LostRun → ℕ → ℕ → SectorState → Type 0
-HaveState again bad runs at n state = (j : ℕ) → j < n → joined_state again bad runs (at + j) ≡ state
+-- the states of the sectors from one on, which have these statuses
+abbrev pub joined_states : ℕ → List Status → List LostRun → List LostRun → List SectorState
+joined_states at [] earlier runs = []
+joined_states at (status ∷ more) earlier runs = joined_state status earlier runs at ∷ joined_states (suc at) more earlier runs
+
+-- n sectors from one on have this state by runs
+abbrev pub HaveState : List LostRun → ℕ → ℕ → SectorState → Type 0
+HaveState runs at n state = (j : ℕ) → j < n → state_in runs (at + j) ≡ state
+
+-- n sectors from one on have this state by the runs of both passes
+abbrev pub HaveJoined : Status → List LostRun → List LostRun → ℕ → ℕ → SectorState → Type 0
+HaveJoined status earlier runs at n state = (j : ℕ) → j < n → joined_state status earlier runs (at + j) ≡ state
 
 -- the first run ends after a sector
 abbrev pub EndsAfter : ℕ → List LostRun → Type 0

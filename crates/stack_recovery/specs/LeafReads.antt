@@ -10,14 +10,16 @@ use Rattle.stack_recovery.specs.declared.fault.RecoveryFault.{RecoveryFault}
 use Rattle.stack_recovery.specs.Surveys.{AreMarked}
 
 -- A pass has come to a sector of device d. Each piece is read from the sector to which the pass has come. What was read is written
--- there, and the pass goes on behind it; after a failed read it goes on there or further on. Only past sectors that were read
--- before it goes without a call.
+-- there, and the pass goes on after it; after a failed read it goes on there or further on. Sectors after it may be read too,
+-- but only if that read fails the pass goes on. Only past sectors that were read before it goes without a call.
 pub data CopiesLeaves {D O : Type 0} (state : D → Device) (does : D → Call → D → Type 0) (Did : O → Call → O → Type 0) (marks : List Bool) (d : ℕ) (w : StackRecord) (o : O) : ℕ → StackRecord → O → Type 0 where
   no_piece : CopiesLeaves state does Did marks d w o 0 w o
   piece_copied : {at : ℕ} {v w' : StackRecord} {p o' : O} (n : ℕ) (bytes : List ℕ) → CopiesLeaves state does Did marks d w o at v p → PieceGives state does v (d, at) n (Ok bytes) w' → Did p (Write at bytes true) o'
       → CopiesLeaves state does Did marks d w o (at + n) w' o'
-  piece_failed : {at : ℕ} {v w' : StackRecord} {p : O} (n further : ℕ) (fault : IoFault) → CopiesLeaves state does Did marks d w o at v p → PieceGives state does v (d, at) n (Err fault) w'
+  piece_failed : {at : ℕ} {v w' : StackRecord} {p : O} (behind n further : ℕ) (fault : IoFault) → CopiesLeaves state does Did marks d w o at v p → PieceGives state does v (d, at + behind) n (Err fault) w'
       → CopiesLeaves state does Did marks d w o (at + further) w' p
+  piece_probed : {at : ℕ} {v w' : StackRecord} {p : O} (behind n : ℕ) (bytes : List ℕ) → CopiesLeaves state does Did marks d w o at v p → PieceGives state does v (d, at + behind) n (Ok bytes) w'
+      → CopiesLeaves state does Did marks d w o at w' p
   sectors_had : {at : ℕ} {v : StackRecord} {p : O} (n : ℕ) → CopiesLeaves state does Did marks d w o at v p → AreMarked marks at n true → CopiesLeaves state does Did marks d w o (at + n) v p
 
 -- the last piece was read, and then nothing was called, or its write failed

@@ -6,6 +6,7 @@ pub mod Handing
 pub mod Laws
 pub mod LeafReads
 pub mod Joins
+pub mod LargePasses
 pub mod Listings
 pub mod LostRuns
 pub mod PieceLimits
@@ -19,5 +20,6 @@ pub mod Skips
 pub mod Stretches
 pub mod Surveys
 pub mod Texts
+pub mod Trims
 pub mod TwoPasses
 pub mod Losses

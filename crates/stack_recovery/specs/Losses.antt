@@ -1,39 +1,53 @@
--- A piece whose read failed: its sectors are lost, or they are read again.
-use Rattle.std.specs.Prelude.{◌≡◌, ◌⊎◌, ℕ, ◌+◌, Bool, true, false, List, replicate, Option, Some, if◌then◌else◌}
-use Rattle.stack_meaning.specs.declared.fault.IoFault.{IoFault}
-use Rattle.stack_meaning.specs.declared.fault.IoFault.TheVariants as io
+-- A run of sectors that a pass doesn't recover: in the map, in the counts and among the reported runs.
+use Rattle.std.specs.Prelude.{◌≡◌, ℕ, ◌+◌, ◌==◌, Bool, true, false, List, [], ◌++◌, replicate, Option, Some, if◌then◌else◌}
 use Rattle.rescue_map.specs.declared.map.Run.{Run}
 use Rattle.rescue_map.specs.Maps.{losts, marks}
+use Rattle.runs.specs.Runs.{run}
+use Rattle.runs.specs.Tallies.{closed_by, opened_by}
 use Rattle.stack_recovery.specs.declared.fault.RecoveryFault.{RecoveryFault}
 use Rattle.stack_recovery.specs.declared.fault.RecoveryFault.TheVariants.{NoMemory, Output}
-use Rattle.runs.specs.Tallies.{closed_by, opened_by}
-use Rattle.stack_recovery.specs.declared.lost_run.Loss.{Loss}
 use Rattle.stack_recovery.specs.declared.lost_run.Loss.TheVariants.{Lost, Unscraped}
-use Rattle.stack_recovery.specs.LostRuns.{LostRun, is_same_loss, lost_count, untried_count}
 use Rattle.stack_recovery.specs.declared.tally.Tally.{Tally}
-use Rattle.stack_recovery.specs.Listings.{Listed, Tells}
-use Rattle.stack_recovery.specs.Recoveries.{IsMapRefused, NotesMore}
+use Rattle.stack_recovery.specs.declared.trimming.LostEnd.{LostEnd}
+use Rattle.stack_recovery.specs.LostRuns.{LostRun, is_same_loss, lost_count, untried_count}
+use Rattle.stack_recovery.specs.Recoveries.{IsMapRefused, NotesMore, is_lost}
 
--- the loss of a piece whose sectors are lost together, or aren't
-abbrev pub loss_by : Bool → IoFault → Loss
-loss_by alike fault = if alike then Lost fault else Unscraped fault
-
--- what is recorded in the map: sectors that are lost together are bad
-abbrev pub NotesLost : ℕ → Bool → Option (List Run) → Option (List Run) → Bool → Type 0
-NotesLost count alike old new true = NotesMore marks old new (replicate count false) × NotesMore losts old new (replicate count alike)
-NotesLost count alike old new false = new ≡ old
+-- what is recorded in the map
+abbrev pub NotesLost : LostRun → Option (List Run) → Option (List Run) → Type 0
+NotesLost lost old new = NotesMore marks old new (replicate lost.count false) × NotesMore losts old new (replicate lost.count (is_lost (Some lost.kind)))
 
 -- what is counted
-abbrev pub TalliesLost : LostRun → Tally → Tally → Bool → Type 0
-TalliesLost run old new true = new ≡ record { last = Some (opened_by is_same_loss old.last run); lost = old.lost + lost_count run.kind run.count; untried = old.untried + untried_count run.kind run.count }
-TalliesLost run old new false = new ≡ old
+abbrev pub with_loss : Tally → LostRun → Tally
+with_loss t lost = record { last = Some (opened_by is_same_loss t.last lost); lost = t.lost + lost_count lost.kind lost.count; untried = t.untried + untried_count lost.kind lost.count }
 
--- what is reported: the run that doesn't grow further
-abbrev pub ListsLost : {L : Type 0} → (L → Listed) → LostRun → Tally → L → L → Bool → Type 0
-ListsLost told run tally old new true = Tells (told old) (told new) (closed_by is_same_loss tally.last run)
-ListsLost told run tally old new false = new ≡ old
+-- why the recovery ends there: memory for the map was refused, before a run was reported
+abbrev pub StopsInRun : {L : Type 0} → Bool → L → L → RecoveryFault → Type 0
+StopsInRun makes_map old new NoMemory = IsMapRefused makes_map × (new ≡ old)
+StopsInRun makes_map old new Output = ⊥
 
--- why the recovery ends there: the read ran out of memory, or memory for the map was refused
-abbrev pub StopsInPiece : {L : Type 0} → IoFault → Bool → L → L → RecoveryFault → Type 0
-StopsInPiece fault makes_map old new NoMemory = ((fault ≡ io.NoMemory) ⊎ IsMapRefused makes_map) × (new ≡ old)
-StopsInPiece fault makes_map old new Output = ⊥
+-- ---- the last lost sectors of a run, and those before them
+
+-- these, from sector `at` on, and the last ones
+abbrev pub unread_run : ℕ → LostEnd → LostRun
+unread_run at last = run at last.before (Unscraped last.fault)
+
+abbrev pub last_run : ℕ → LostEnd → LostRun
+last_run at last = run (at + last.before) last.count (Lost last.fault)
+
+abbrev pub NotesEnd : LostEnd → Option (List Run) → Option (List Run) → Type 0
+NotesEnd last old new =
+    NotesMore marks old new (replicate last.before false ++ replicate last.count false) × NotesMore losts old new (replicate last.before false ++ replicate last.count true)
+
+-- the tally after those that aren't read, if there are any, and the runs that no longer grow then
+abbrev pub with_unread : Tally → ℕ → LostEnd → Tally
+with_unread t at last = if last.before == 0 then t else with_loss t (unread_run at last)
+
+abbrev pub closed_by_unread : Tally → ℕ → LostEnd → List LostRun
+closed_by_unread t at last = if last.before == 0 then [] else closed_by is_same_loss t.last (unread_run at last)
+
+-- and after the last ones
+abbrev pub with_end : Tally → ℕ → LostEnd → Tally
+with_end t at last = with_loss (with_unread t at last) (last_run at last)
+
+abbrev pub closed_by_end : Tally → ℕ → LostEnd → List LostRun
+closed_by_end t at last = closed_by_unread t at last ++ closed_by is_same_loss (with_unread t at last).last (last_run at last)

@@ -22,7 +22,7 @@ use Rattle.stack_recovery.specs.declared.rescued.Rescued.{Rescued}
 use Rattle.stack_recovery.specs.Copies.{IsCopied}
 use Rattle.stack_recovery.specs.Deadlines.{EndsAt}
 use Rattle.stack_recovery.specs.Listings.{Listed, Tells}
-use Rattle.stack_recovery.specs.PassPieces.{ArePassPieces, Scanned, pass_over, scanned}
+use Rattle.stack_recovery.specs.PassPieces.{ArePassPieces, MayReadOn, Scanned, forward, pass_over, scanned, trimming_from}
 use Rattle.stack_recovery.specs.Surveys.{IsSurveyOver, PieceRead, SectorState, all_states}
 
 -- the device of a pass, and whether it doesn't scrape
@@ -49,11 +49,12 @@ pub record IsBegunOver (marks : List Bool) (scan : Scanned) (old new : Sides) : 
   pub first : runs_of is_same_loss 0 (all_states reads) ≡ runs ++ more
   pub printed : Tells old.printed new.printed runs
 
--- a read of some sectors from that one on ran out of memory; a `verity` line is below them, as only its reads allocate
+-- a read of some sectors not before that one ran out of memory; a `verity` line is below them, as only its reads allocate
 pub record FindsNoMemory (d at : ℕ) (w w' : StackRecord) : Type 0 where
+  pub behind : ℕ
   pub count : ℕ
-  pub answered : EachBytes w d at count (Err io.NoMemory) w'
-  pub met : MeetVerity (said_at w.config (mapped d)) at count
+  pub answered : EachBytes w d (at + behind) count (Err io.NoMemory) w'
+  pub met : MeetVerity (said_at w.config (mapped d)) (at + behind) count
 
 -- a map is made, and memory for one of its runs was refused
 abbrev pub IsMapRefused : Bool → Type 0
@@ -132,12 +133,14 @@ abbrev pub counts_in : List SectorState → Counts
 counts_in states = record { read = length states - (lost_in states + untried_in states); lost = lost_in states; untried = untried_in states }
 
 -- Each sector of device d before `end` was read, now or before, or is lost. The sectors that were read now were copied, a line was
--- printed for each longest lost run, the counts are right, and a map is made of these sectors.
+-- printed for each longest lost run, the counts are right, and a map is made of these sectors. The pass ends at the end of the device, or
+-- where it may read on: after a lost sector of a pass that doesn't scrape only once the run was read backwards.
 pub record GoesOverTo (before : List Bool) (scan : Scanned) (end : ℕ) (old : Sides) (counts : Counts) (made : Option (List Run)) (new : Sides) : Type 0 where
   pub reads : List PieceRead
   pub survey : IsSurveyOver before scan.d 0 old.stack reads new.stack
   pub whole : length (all_states reads) ≡ end
   pub pieces : ArePassPieces scan.no_scrape (pass_over old.stack.config scan.d before) reads
+  pub trims : (end ≡ size old.stack.config (mapped scan.d)) ⊎ MayReadOn (trimming_from scan.no_scrape forward 0 reads) end
   pub copied : IsCopied reads old.out new.out
   pub unfailed : new.out.failures ≡ old.out.failures
   pub printed : Tells old.printed new.printed (runs_of is_same_loss 0 (all_states reads))

@@ -1,6 +1,6 @@
--- How many sectors the first pass skips after a read that failed.
+-- How many sectors a pass in large pieces skips after a read that failed.
 use Rattle.std.specs.Prelude.{ℕ, ◌*◌, ◌/◌, min, max}
-use Rattle.stack_recovery.specs.Surveys.{Finding, again, had, kept, lost}
+use Rattle.stack_recovery.specs.Surveys.{Finding, again, had, kept, lost, probed, trimmed}
 
 -- after the first failed read, and after a piece that was read: 64 KiB
 abbrev pub least_skip : ℕ
@@ -16,7 +16,9 @@ longer_skip most skip = min (skip * 2) most
 
 -- how many sectors are to be skipped after the next failed read, by the result for a piece
 abbrev pub skip_after : ℕ → ℕ → Finding → ℕ
-skip_after most skip (had bytes) = least_skip
+skip_after most skip (had bytes) = min least_skip most
 skip_after most skip (lost fault) = skip
 skip_after most skip (again fault) = longer_skip most skip
+skip_after most skip (probed behind bytes) = skip
+skip_after most skip (trimmed behind fault) = skip
 skip_after most skip kept = skip

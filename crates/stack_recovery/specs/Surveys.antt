@@ -1,5 +1,5 @@
 -- A scan of a mapped device: the pieces that were read, and the result for each.
-use Rattle.std.specs.Prelude.{◌≡◌, ◌≢◌, ℕ, ◌+◌, ◌<◌, ◌≤◌, Bool, true, false, List, [], ◌∷◌, length, replicate, Option, Some, None, Ok, Err}
+use Rattle.std.specs.Prelude.{◌≡◌, ◌≢◌, ℕ, ◌+◌, ◌-◌, ◌<◌, ◌≤◌, Bool, true, false, List, [], ◌∷◌, ◌++◌, length, replicate, Option, Some, None, Ok, Err}
 use Rattle.std.specs.List.{flat_map, slice_index_or}
 use Rattle.stack_rules.specs.Records.{Configuration}
 use Rattle.stack_meaning.specs.declared.fault.IoFault.{IoFault}
@@ -19,10 +19,14 @@ fault_of (Unscraped fault) = fault
 pub data Finding : Type 0 where
   -- its sectors were read, with these bytes
   had : List ℕ → Finding
-  -- its sectors are lost, or given up
-  lost : Loss → Finding
-  -- its read ended in this fault, and its sectors are read again in smaller pieces
+  -- its sectors are lost by this fault
+  lost : IoFault → Finding
+  -- its read ended in this fault, and its sectors are read again by a later pass
   again : IoFault → Finding
+  -- the sectors after so many were read, and their bytes aren't used
+  probed : ℕ → List ℕ → Finding
+  -- so many sectors are unscraped, since those after them are lost by this fault
+  trimmed : ℕ → IoFault → Finding
   -- its sectors were read before, and aren't read again
   kept : Finding
 
@@ -35,20 +39,22 @@ pub record PieceRead : Type 0 where
 -- the stack's answer, and its state afterwards
 abbrev pub AnswersFinding : StackRecord → ℕ → ℕ → ℕ → Finding → StackRecord → Type 0
 AnswersFinding w d first n (had bytes) w' = EachBytes w d first n (Ok bytes) w'
-AnswersFinding w d first n (lost loss) w' = EachBytes w d first n (Err (fault_of loss)) w'
+AnswersFinding w d first n (lost fault) w' = EachBytes w d first n (Err fault) w'
 AnswersFinding w d first n (again fault) w' = EachBytes w d first n (Err fault) w'
+AnswersFinding w d first n (probed behind bytes) w' = EachBytes w d (first + behind) (n - behind) (Ok bytes) w'
+AnswersFinding w d first n (trimmed behind fault) w' = EachBytes w d (first + behind) (n - behind) (Err fault) w'
 AnswersFinding w d first n kept w' = w' ≡ w
 
--- Sectors are lost only by a read of one sector, or of sectors that are lost together; others are unscraped. Running out of memory
--- is no loss.
-abbrev pub MayLose : Configuration → ℕ → ℕ → ℕ → Loss → Type 0
-MayLose c d first n (Lost fault) = AreAlike c d first n × (fault ≢ NoMemory)
-MayLose c d first n (Unscraped fault) = fault ≢ NoMemory
+-- Sectors are lost only by a read of one sector, or of sectors that are lost together. Running out of memory is no loss.
+abbrev pub MayLose : Configuration → ℕ → ℕ → ℕ → IoFault → Type 0
+MayLose c d first n fault = AreAlike c d first n × (fault ≢ NoMemory)
 
 abbrev pub MayFind : Configuration → ℕ → ℕ → ℕ → Finding → Type 0
 MayFind c d first n (had bytes) = Unit {0}
-MayFind c d first n (lost loss) = MayLose c d first n loss
+MayFind c d first n (lost fault) = MayLose c d first n fault
 MayFind c d first n (again fault) = Unit {0}
+MayFind c d first n (probed behind bytes) = behind < n
+MayFind c d first n (trimmed behind fault) = (behind < n) × MayLose c d (first + behind) (n - behind) fault
 MayFind c d first n kept = 1 ≤ n
 
 -- a mark states whether a sector was read before; past the last mark none was; these n sectors have this mark
@@ -72,8 +78,10 @@ SectorState = Option Loss
 
 abbrev pub states_found : ℕ → Finding → List SectorState
 states_found n (had bytes) = replicate n None
-states_found n (lost loss) = replicate n (Some loss)
+states_found n (lost fault) = replicate n (Some (Lost fault))
 states_found n (again fault) = []
+states_found n (probed behind bytes) = []
+states_found n (trimmed behind fault) = replicate behind (Some (Unscraped fault)) ++ replicate (n - behind) (Some (Lost fault))
 states_found n kept = replicate n None
 
 -- the states of the sectors of a piece, and of several pieces

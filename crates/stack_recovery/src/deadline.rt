@@ -1,5 +1,5 @@
 //! When a pass over a mapped device ends.
-ghost use Rattle.std.specs.Prelude.{◌≤◌, IsTrue};
+ghost use Rattle.std.specs.Prelude.{◌≡◌, ◌≤◌, true, IsTrue};
 ghost use Rattle.stack_recovery.specs.Deadlines.{EndsAt, MayEnd};
 
 use device_adapters::Progress;
@@ -12,17 +12,18 @@ pub struct Deadline {
     pub seconds: u64,
 }
 
-/// The first pass over a mapped device: to its last sector, or up to a deadline. After its first failed read it skips `skip`
-/// sectors.
+/// A pass over a mapped device in large pieces: to its last sector, or up to a deadline. After its first failed read it skips `skip`
+/// sectors, and after a further one at most `most`.
 #[derive(Clone, Copy)]
 pub struct FirstPass {
     pub device: DevId,
     pub skip: u64,
+    pub most: u64,
     pub deadline: Option<Deadline>,
 }
 
-/// A pass over a mapped device after the first one: to its last sector, or up to a deadline. With `no_scrape` it doesn't search a
-/// failed piece sector by sector after its first lost sector.
+/// A pass over a mapped device by single sectors: to its last sector, or up to a deadline. With `no_scrape` it reads a run of
+/// unread sectors only from its beginning to its first lost sector, and from its last lost sector to its end.
 #[derive(Clone, Copy)]
 pub struct DevicePass {
     pub device: DevId,
@@ -60,4 +61,23 @@ pub(crate) fn pass_end<P: Progress>(
         return at;
     }
     sectors
+}
+
+/// Returns the sector before which such a pass ends that may be about to read backwards (`turning`): it does so before it ends early.
+pub(crate) fn trim_end<P: Progress>(
+    deadline: Option<Deadline>,
+    turning: bool,
+    at: u64,
+    sectors: u64,
+    progress: &mut P,
+) -> u64
+    requires { at ≤ sectors }
+    ensures few { result ≤ sectors }
+    ensures ends { result ≤ at → EndsAt deadline at sectors }
+    ensures trimmed { turning ≡ true → sectors ≤ result }
+{
+    if turning {
+        return sectors;
+    }
+    pass_end(deadline, at, sectors, progress)
 }

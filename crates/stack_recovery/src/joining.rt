@@ -1,16 +1,16 @@
-//! The lost runs that a pass found, among the bad sectors that it left.
-ghost use Rattle.std.specs.Prelude.{◌≡◌, ◌+◌, ◌<◌, ◌≤◌, ◌^◌, ◌&&◌, not, nat_lt, None};
-ghost use Rattle.rescue_map.specs.Maps.{losts};
+//! The lost runs that a pass found, among the bad sectors that it left, with those that an earlier pass found.
+ghost use Rattle.std.specs.Prelude.{◌≡◌, ◌+◌, ◌<◌, ◌≤◌, ◌^◌, nat_lt, None};
+ghost use Rattle.rescue_map.specs.Stages.{run_status, statuses};
 ghost use Rattle.runs.specs.Runs.{runs_of};
 ghost use Rattle.runs.specs.Tallies.{EndsAt};
-ghost use Rattle.stack_recovery.specs.Joins.{AreSameFrom, EndsAfter, HaveState, closed_with, joined_states, opened_with, or_known};
+ghost use Rattle.stack_recovery.specs.Joins.{AreSameFrom, EndsAfter, HaveJoined, HaveState, closed_with, joined_states, loss_before, opened_with, or_before};
 ghost use Rattle.stack_recovery.specs.Listings.{Tells};
 ghost use Rattle.stack_recovery.specs.LostRuns.{is_same_loss};
 
 use crate::listing::Listing;
 use crate::lost_run::{Loss, LostRun};
 use crate::tally::Tally;
-use rescue_map::{Ahead, Map, Run, sectors_of};
+use rescue_map::{Ahead, Map, Run, Status, run_status, sectors_of};
 use stack_engine::IoFault;
 
 /// The number of sectors that are lost alike, or of which none is lost.
@@ -39,42 +39,70 @@ fn from_sector(found: &[LostRun], at: u64) -> &[LostRun]
     rest
 }
 
-// Returns the loss of sectors in which a pass found none: that of binding 0, if they are bad in a map and weren't read again.
-fn known_loss(bad: bool, again: bool) -> Option<Loss>
-    ensures { result ≡ or_known (bad && not again) None }
-{
-    if bad && !again {
-        Some(Loss::Lost(IoFault::Device(0)))
-    } else {
-        None
-    }
-}
-
-// Returns how many of the next sectors, a run of a map from sector `at` on, are alike, by the runs that a pass found among them.
-fn alike_at(run: Run, again: bool, rest: &[LostRun], at: u64) -> Alike
-    requires some { 1 ≤ run.count }
-    requires ends { EndsAfter at rest.now }
+// Returns how many of the next `count` sectors from sector `at` on are in one run or in none, and their loss.
+fn alike_in(runs: &[LostRun], at: u64, count: u64) -> Alike
+    requires some { 1 ≤ count }
+    requires ends { EndsAfter at runs.now }
     ensures some { 1 ≤ result.count }
-    ensures few { result.count ≤ run.count }
-    ensures state { HaveState again run.lost rest.now at result.count result.loss }
+    ensures few { result.count ≤ count }
+    ensures state { HaveState runs.now at result.count result.loss }
 {
-    let loss = known_loss(run.lost, again);
-    if rest.is_empty() {
-        return Alike {
-            count: run.count,
-            loss,
-        };
+    if runs.is_empty() {
+        return Alike { count, loss: None };
     }
-    let next = rest[0];
+    let next = runs[0];
     if at < next.first {
         return Alike {
-            count: run.count.min(next.first - at),
-            loss,
+            count: count.min(next.first - at),
+            loss: None,
         };
     }
     Alike {
-        count: run.count.min(next.count - (at - next.first)),
+        count: count.min(next.count - (at - next.first)),
         loss: Some(next.kind),
+    }
+}
+
+// Returns why sectors of a status weren't recovered: as an earlier pass found, or by the fault of binding 0.
+fn loss_before(status: Status, before: Option<Loss>) -> Loss
+    ensures { result ≡ loss_before status before }
+{
+    match before {
+        None => match status {
+            Status::Bad => Loss::Lost(IoFault::Device(0)),
+            _ => Loss::Unscraped(IoFault::Device(0)),
+        },
+        Some(loss) => loss,
+    }
+}
+
+// Returns the loss of sectors of a status by what an earlier pass and the last one found of them, which may be none.
+fn or_before(status: Status, before: Option<Loss>, found: Option<Loss>) -> Option<Loss>
+    ensures { result ≡ or_before status before found }
+{
+    match found {
+        None => match status {
+            Status::Recovered => None,
+            _ => Some(loss_before(status, before)),
+        },
+        Some(loss) => Some(loss),
+    }
+}
+
+// Returns how many of the next sectors, a run of a map from sector `at` on, are alike, by the runs that two passes found among them.
+fn alike_at(run: Run, before: &[LostRun], rest: &[LostRun], at: u64) -> Alike
+    requires some { 1 ≤ run.count }
+    requires earlier { EndsAfter at before.now }
+    requires ends { EndsAfter at rest.now }
+    ensures some { 1 ≤ result.count }
+    ensures few { result.count ≤ run.count }
+    ensures state { HaveJoined (run_status run) before.now rest.now at result.count result.loss }
+{
+    let found = alike_in(rest, at, run.count);
+    let known = alike_in(before, at, found.count);
+    Alike {
+        count: known.count,
+        loss: or_before(run_status(run), known.loss, found.loss),
     }
 }
 
@@ -101,21 +129,29 @@ fn add<L: Listing>(tally: &mut Tally, listing: &mut L, at: u64, alike: Alike)
 }
 
 /// Reports the longest runs of sectors that are lost by one fault, in rising order: those among the runs `found` by a pass, and the other
-/// sectors that are bad in its map, unless it read these `again`. The fault of these is that of binding 0, since a map has none.
-pub fn tell_among_bad<L: Listing>(listing: &mut L, map: &Map, again: bool, found: &[LostRun])
-    ensures { Tells (L.told listing.old) (L.told listing.new) (runs_of is_same_loss 0 (joined_states again 0 (losts map.now) found.now)) }
+/// sectors that its map doesn't mark as recovered, which the pass didn't read. Their loss is the one that an `earlier` pass found, or that
+/// of binding 0, since a map has none.
+pub fn tell_among_bad<L: Listing>(
+    listing: &mut L,
+    map: &Map,
+    earlier: &[LostRun],
+    found: &[LostRun],
+)
+    ensures { Tells (L.told listing.old) (L.told listing.new) (runs_of is_same_loss 0 (joined_states 0 (statuses map.now) earlier.now found.now)) }
 {
     // The call provides the bound on a map's sectors.
     let _runs = map.runs();
     let sectors = sectors_of(map);
     let mut tally = Tally::new();
     let mut ahead = Ahead::of_map(map);
+    let mut before = earlier;
     let mut rest = found;
     let mut at = 0;
     'sectors: while at < sectors {
         let run = ahead.next_run();
+        before = from_sector(before, at);
         rest = from_sector(rest, at);
-        let alike = alike_at(run, again, rest, at);
+        let alike = alike_at(run, before, rest, at);
         add(&mut tally, listing, at, alike);
         ahead.pass(alike.count);
         at += alike.count;

@@ -1,6 +1,6 @@
 //! Laws of recoveries: each function's contract states the law, and a call of the function provides it.
 ghost use Rattle.stack_recovery.specs.Laws.{LostBlocksAreLost, RunsAreLongest, StatesAreMeant, SurveysAreMeant};
-ghost use Rattle.stack_recovery.specs.PassLaws.{FailuresAreFew, LimitsGrowBack, PassesScrape, RunsBeginWithSingleSectors, SkimmedPiecesAreLongest};
+ghost use Rattle.stack_recovery.specs.PassLaws.{FailuresAreFew, PassesScrape, SkimmedPiecesAreLongest, SweepsTryAll};
 
 /// If the backing devices are steady and never fail, a recovery that scrapes loses a sector exactly if it means a fault, and by that fault.
 pub fn states_are_meant()
@@ -24,25 +24,20 @@ pub fn runs_are_longest()
     ensures { RunsAreLongest }
 {}
 
-/// In the first pass each piece ends as `aligned_len` says of at most 128 sectors.
+/// In a pass in large pieces each piece ends as `aligned_len` says of at most 128 sectors.
 pub fn skimmed_pieces_are_longest()
     ensures { SkimmedPiecesAreLongest }
 {}
 
-/// Without parity, in the first pass the backing devices fail at most once for each piece that can't be read. No other read comes
+/// Without parity, in such a pass the backing devices fail at most once for each piece that can't be read. No other read comes
 /// before the device's end is reached.
 pub fn failures_are_few()
     ensures { FailuresAreFew }
 {}
 
-/// In the second pass a run begins with single sectors: as long as they are read, up to the end of a piece of 128 sectors.
-pub fn runs_begin_with_single_sectors()
-    ensures { RunsBeginWithSingleSectors }
-{}
-
-/// After a failed read, a piece that is read after its end brings the limit back to 128 sectors.
-pub fn limits_grow_back()
-    ensures { LimitsGrowBack }
+/// A second pass in large pieces skips no sector, so that those it leaves are in pieces whose read failed.
+pub fn sweeps_try_all()
+    ensures { SweepsTryAll }
 {}
 
 /// A pass without `no_scrape` leaves no sector unscraped.

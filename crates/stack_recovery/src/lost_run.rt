@@ -1,7 +1,7 @@
 //! A run of sectors that are lost by one fault.
-ghost use Rattle.std.specs.Prelude.{◌≡◌, ◌≤◌};
+ghost use Rattle.std.specs.Prelude.{◌≡◌, ◌≤◌, Some};
 ghost use Rattle.program_io.specs.Counted.{Writes};
-ghost use Rattle.stack_recovery.specs.Losses.{loss_by};
+ghost use Rattle.stack_recovery.specs.Recoveries.{is_lost};
 ghost use Rattle.stack_recovery.specs.LostRuns.{is_same_fault, is_same_loss, lost_count, untried_count};
 ghost use Rattle.stack_recovery.specs.Surveys.{fault_of};
 ghost use Rattle.stack_recovery.specs.Texts.{loss_word, lost_run_text};
@@ -12,12 +12,13 @@ use runs::Run;
 use stack_engine::{Fault, IoFault};
 use std::io::Write;
 
-/// Why sectors weren't recovered, and the fault that the read returned.
+/// Why sectors weren't recovered, and the fault that a read returned.
 #[derive(Clone, Copy, Debug, PartialEq, Eq)]
 pub enum Loss {
     /// A read of each sector returns the fault.
     Lost(IoFault),
-    /// A read of several sectors at once returned the fault. They weren't read one by one, and some may be readable.
+    /// They lie between two lost sectors of a run that couldn't be read in large pieces; the fault is that of the second one. They
+    /// weren't read one by one, and some may be readable.
     Unscraped(IoFault),
 }
 
@@ -58,14 +59,13 @@ pub(crate) fn fault_of(loss: Loss) -> IoFault
     }
 }
 
-/// Returns the loss of a piece whose read failed: `alike`, if its sectors are lost together.
-pub(crate) fn loss_by(alike: bool, fault: IoFault) -> Loss
-    ensures { result ≡ loss_by alike fault }
+/// Returns whether sectors with this loss are lost, and not unscraped.
+pub(crate) fn is_lost(loss: Loss) -> bool
+    ensures { result ≡ is_lost (Some loss) }
 {
-    if alike {
-        Loss::Lost(fault)
-    } else {
-        Loss::Unscraped(fault)
+    match loss {
+        Loss::Lost(_) => true,
+        Loss::Unscraped(_) => false,
     }
 }
 

@@ -7,7 +7,7 @@ ghost use Rattle.stack_recovery.specs.Recoveries.{NotesMore};
 ghost use Rattle.stack_recovery.specs.declared.fault.RecoveryFault.TheVariants as recovery_fault;
 
 use crate::fault::RecoveryFault;
-use rescue_map::{Map, Run};
+use rescue_map::{Map, Run, Stage};
 
 /// Records in the map, if one is made, that the next `count` sectors were read (`had`), are bad (`lost`) or remain to be read.
 ///
@@ -45,5 +45,10 @@ pub(crate) fn mark(map: &mut Map, count: u64, had: bool, lost: bool) -> Result<(
     ensures lost { OnOk result (losts map.new ≡ losts map.old ++ replicate count lost) }
     ensures err { IfErr result (λ fault. (fault ≡ recovery_fault.NoMemory) × IsOutOfMemory 1) }
 {
-    Ok(map.push(Run { count, had, lost })?)
+    Ok(map.push(Run {
+        count,
+        had,
+        lost,
+        stage: Stage::Untried,
+    })?)
 }

@@ -1,37 +1,34 @@
 //! Recovers a mapped device from its first sector to its last.
-ghost use Rattle.std.specs.Prelude.{◌≡◌, ◌≢◌, ◌≤◌, ◌<◌, ◌+◌, ◌^◌, [], false, length, IsTrue, IfOk, IfErr, OnOk};
+ghost use Rattle.std.specs.Prelude.{◌≡◌, ◌≤◌, ◌<◌, ◌^◌, [], false, length, IsTrue, IfOk, IfErr, OnOk};
 ghost use Rattle.block_device.specs.Call.{DeviceDoes};
 ghost use Rattle.stack_rules.specs.Names.{mapped, size};
-ghost use Rattle.std.specs.Option.{ForSome, is_some};
+ghost use Rattle.std.specs.Option.{is_some};
 ghost use Rattle.rescue_map.specs.Maps.{marks};
 ghost use Rattle.rescue_map.specs.Aheads.{marks_ahead};
 ghost use Rattle.stack_recovery.specs.Handing.{HandsOverPart, HandsOverUntil};
 ghost use Rattle.stack_recovery.specs.LeafReads.{CopiesAll, CopiesOver};
-ghost use Rattle.stack_recovery.specs.Losses.{ListsLost, NotesLost, StopsInPiece, TalliesLost, loss_by};
 ghost use Rattle.stack_recovery.specs.Recoveries.{EndsEarlyBy, GoesOverBy, AreLossesNoted, AreMarksNoted, counted_sectors, parties};
 ghost use Rattle.stack_recovery.specs.Retries.{retried, retried_by};
 ghost use Rattle.stack_recovery.specs.TwoPasses.{EndsRecovery, HandsPasses, HandsPassesPart, RecoversBy};
-ghost use Rattle.runs.specs.Runs.{run};
-ghost use Rattle.runs.specs.Tallies.{EndsAt};
 
-use crate::deadline::{DevicePass, FirstPass, pass_end};
+use crate::deadline::{DevicePass, trim_end};
 use crate::fault::RecoveryFault;
+use crate::large::read_large;
 use crate::listing::Listing;
-use crate::lost_run::{LostRun, is_same, loss_by};
+use crate::losing::{lose_run, lost_run, note_end, tell_end};
 use crate::notes::note;
-use crate::piece::{Piece, piece_at};
-use crate::piece_limit::{PieceLimit, is_given_up};
+use crate::piece::piece_at;
 use crate::rescued::rescue;
 use crate::retries::read_again;
-use crate::skimming::skim_ahead;
-use crate::skip::LEAST_SKIP;
+use crate::skimming::check_memory;
 use crate::stretch::next_stretch;
 use crate::tally::Tally;
+use crate::trimming::lost_end;
 use block_device::BlockDev;
 use device_adapters::{NoProgress, Progress};
 use rescue_map::{Ahead, Map};
 use stack_config::DevId;
-use stack_engine::{IoFault, Stack};
+use stack_engine::Stack;
 use std::alloc::Global;
 
 /// How many sectors were read, how many are lost, and how many are unscraped, of which no other read was tried.
@@ -42,8 +39,8 @@ pub struct Counts {
     pub untried: u64,
 }
 
-/// A mapped device to be recovered, how many times its lost sectors are read again, and whether a failed piece isn't searched
-/// sector by sector after its first lost sector.
+/// A mapped device to be recovered, how many times its lost sectors are read again, and whether sectors between the first and the last
+/// lost one of a run aren't read.
 #[derive(Clone, Copy, Debug, PartialEq, Eq)]
 pub struct RecoveryPlan {
     pub device: DevId,
@@ -58,8 +55,8 @@ pub(crate) const ROOM: usize = 65536;
 /// sector is written to the same offset of `out`, which has room for all sectors. Lost sectors are left unchanged there. Each
 /// piece that is read is written by one call, in order, and nothing is called after a failed write.
 ///
-/// The device is read in two passes: the first one skips ahead after failed reads, as [`skim`](crate::skim) does, and the second
-/// one reads what the first one left: each failed piece by single sectors.
+/// The device is read in three passes: the first one skips ahead after failed reads, as [`skim`](crate::skim) does; the second one
+/// reads each piece that the first one didn't try; the third one reads failed pieces by single sectors.
 ///
 /// # Errors
 ///
@@ -89,11 +86,11 @@ pub fn recover<D: BlockDev, O: BlockDev, L: Listing>(
     recover_with(alloc, stack, plan, out, listing, &mut NoProgress)
 }
 
-/// Recovers a device as `recover` does, and reports progress. After the second pass, sectors that are lost are read again, at most
+/// Recovers a device as `recover` does, and reports progress. After the third pass, sectors that are lost are read again, at most
 /// `retries` times, and only the last pass reports lost sectors.
 ///
-/// With `no_scrape` a failed piece is read by single sectors only up to its first lost sector. The rest of it is read at once. If
-/// that read fails, the rest is reported as a loss `Unscraped`.
+/// With `no_scrape` each longest run of failed pieces is read by single sectors from its beginning up to the first lost one, and
+/// from its end backwards up to the last lost one. The sectors between these are reported as a loss `Unscraped`.
 ///
 /// # Errors
 ///
@@ -118,14 +115,8 @@ pub fn recover_with<D: BlockDev, O: BlockDev, L: Listing, P: Progress>(
 {
     let d = plan.device;
     let no_scrape = plan.no_scrape;
-    let first = FirstPass {
-        device: d,
-        skip: LEAST_SKIP,
-        deadline: None,
-    };
-    let ahead = Ahead::unread(stack.config().sectors(d));
-    let skimmed = skim_ahead(alloc, stack, first, out, ahead, progress)?;
-    let left = read_again(alloc, stack, plan, out, skimmed.map, progress)?;
+    let failed = read_large(alloc, stack, d, out, progress)?;
+    let left = read_again(alloc, stack, plan, out, failed, progress)?;
     let last = DevicePass {
         device: d,
         no_scrape,
@@ -201,19 +192,27 @@ fn go_over_by<D: BlockDev, O: BlockDev, L: Listing, P: Progress>(
     let d = pass.device;
     let sectors = stack.config().sectors(d);
     let mut tally = Tally::new();
-    let mut piece_limit = PieceLimit::of_run(0);
+    let mut turning = false;
     let mut at = 0;
-    'pieces: while at < pass_end(pass.deadline, at, sectors, progress) {
+    'pieces: while at < trim_end(pass.deadline, turning, at, sectors, progress) {
         let run = next_stretch(&mut ahead);
         if run.had {
             note(noted, run.count, true, false)?;
             tally.close(listing);
             ahead.pass(run.count);
             at += run.count;
-            piece_limit = PieceLimit::of_run(at);
+            turning = false;
+        } else if turning {
+            turning = false;
+            if let Some(last) = lost_end(stack, d, at, at + run.count, room)? {
+                note_end(noted, last)?;
+                tell_end(&mut tally, listing, at, last);
+                ahead.pass(last.before + last.count);
+                at += last.before + last.count;
+            }
         } else {
             tell(progress, at, sectors);
-            let piece = piece_at(stack.config(), d, at, at + run.count, piece_limit.most);
+            let piece = piece_at(stack.config(), d, at, at + run.count, 1);
             let count = u64::from(piece.count);
             let bytes = &mut room[..piece.count as usize * 512];
             match stack.read_bytes(d, at, bytes) {
@@ -223,69 +222,19 @@ fn go_over_by<D: BlockDev, O: BlockDev, L: Listing, P: Progress>(
                     tally.close(listing);
                     ahead.pass(count);
                     at += count;
-                    piece_limit = piece_limit.after_bytes(piece.count, at);
                 }
                 Err(fault) => {
-                    let end = at + count;
-                    let given_up = is_given_up(piece.alike, pass.no_scrape, piece_limit.doubt, end);
-                    let failed = FailedPiece { piece, given_up };
-                    if lose_piece(noted, &mut tally, listing, at, failed, fault)? {
-                        ahead.pass(count);
-                        at += count;
-                        piece_limit = piece_limit.after_loss(pass.no_scrape, at);
-                    } else {
-                        piece_limit = PieceLimit::up_to(at + count);
-                    }
+                    check_memory(fault)?;
+                    let lost = lost_run(at, count, fault);
+                    lose_run(noted, &mut tally, listing, lost)?;
+                    ahead.pass(count);
+                    at += count;
+                    turning = pass.no_scrape;
                 }
             }
         }
     }
     Ok(tally.finish(listing, at))
-}
-
-/// A piece whose read failed, and whether its sectors aren't read again.
-#[derive(Clone, Copy)]
-struct FailedPiece {
-    piece: Piece,
-    given_up: bool,
-}
-
-// Handles a piece whose read failed: returns whether its sectors are given up. If not, they are read again one by one.
-fn lose_piece<L: Listing>(
-    noted: &mut Option<Map>,
-    tally: &mut Tally,
-    listing: &mut L,
-    at: u64,
-    failed: FailedPiece,
-    fault: IoFault,
-) -> Result<bool, RecoveryFault>
-    requires some { 1 ≤ failed.piece.count }
-    requires marks { ForSome noted.old (λ map. length (marks map) + failed.piece.count ≤ 2 ^ 54) }
-    requires ends { EndsAt tally.old.last at }
-    requires few { tally.old.lost + tally.old.untried ≤ at }
-    requires room { at + failed.piece.count < 2 ^ 64 }
-    ensures given_up { IfOk result (λ lost. lost ≡ failed.given_up) }
-    ensures kind { OnOk result (fault ≢ IoFault.NoMemory) }
-    ensures noted { IfOk result (NotesLost failed.piece.count failed.piece.alike noted.old noted.new) }
-    ensures tallied { IfOk result (TalliesLost (run at failed.piece.count (loss_by failed.piece.alike fault)) tally.old tally.new) }
-    ensures told { IfOk result (ListsLost L.told (run at failed.piece.count (loss_by failed.piece.alike fault)) tally.old listing.old listing.new) }
-    ensures err { IfErr result (StopsInPiece fault (is_some noted.old) listing.old listing.new) }
-{
-    if is_same(fault, IoFault::NoMemory) {
-        return Err(RecoveryFault::NoMemory);
-    }
-    if !failed.given_up {
-        return Ok(false);
-    }
-    let count = u64::from(failed.piece.count);
-    note(noted, count, false, failed.piece.alike)?;
-    let run = LostRun {
-        first: at,
-        count,
-        kind: loss_by(failed.piece.alike, fault),
-    };
-    tally.lose(listing, run);
-    Ok(true)
 }
 
 /// Reports progress in bytes.

@@ -1,9 +1,10 @@
-//! The first pass over a mapped device, which skips ahead after failed reads.
-ghost use Rattle.std.specs.Prelude.{◌≡◌, ◌≢◌, ◌+◌, ◌≤◌, ◌<◌, ◌^◌, [], length, IsTrue, IfOk, IfErr, OnErr, OnOk};
+//! Passes over a mapped device in large pieces, which skip ahead after failed reads.
+ghost use Rattle.std.specs.Prelude.{◌≡◌, ◌≢◌, ◌+◌, ◌++◌, ◌≤◌, ◌<◌, ◌^◌, [], false, length, replicate, true, IsTrue, IfOk, IfErr, OnErr, OnOk};
+ghost use Rattle.allocation.specs.Refusal.{IsOutOfMemory};
 ghost use Rattle.block_device.specs.Call.{DeviceDoes};
 ghost use Rattle.stack_rules.specs.Names.{mapped, size};
 ghost use Rattle.rescue_map.specs.Aheads.{marks_ahead};
-ghost use Rattle.rescue_map.specs.Maps.{marks};
+ghost use Rattle.rescue_map.specs.Maps.{losts, marks};
 ghost use Rattle.stack_recovery.specs.FirstPasses.{EndsSkimBy, HandsSkimsPart, HandsSkimsUntil, SkimsBy, skimmed, transfer};
 ghost use Rattle.stack_recovery.specs.LeafReads.{CopiesOver};
 ghost use Rattle.stack_recovery.specs.declared.fault.RecoveryFault.TheVariants as recovery_fault;
@@ -15,7 +16,7 @@ use crate::notes::mark;
 use crate::piece::piece_at;
 use crate::piece_limit::MOST_PIECE;
 use crate::recovery::{ROOM, tell};
-use crate::skip::{LEAST_SKIP, longer_skip, most_skip};
+use crate::skip::{LEAST_SKIP, longer_skip};
 use crate::stretch::next_stretch;
 use block_device::BlockDev;
 use device_adapters::Progress;
@@ -23,7 +24,8 @@ use rescue_map::{Ahead, Map};
 use stack_engine::{IoFault, Stack};
 use std::alloc::Global;
 
-/// The map of what was read up to the end of a first pass, and how many sectors are skipped after the next failed read.
+/// The map of what was read up to the end of a pass in large pieces, in which the failed pieces are bad, and how many sectors are
+/// skipped after the next failed read.
 #[derive(Drop)]
 pub struct Skimmed {
     pub map: Map,
@@ -35,9 +37,9 @@ pub struct Skimmed {
 /// call.
 ///
 /// After a failed read the pass skips ahead, so that a device that is about to fail is first read where it can be: the sectors
-/// that `pass` says, at first [`LEAST_SKIP`], and twice as many after each further failed read, up to a hundredth of the device, but
-/// at least 128 sectors and at most 1 GiB. After a piece that can be read it begins with 128 sectors again. A skip ends before the
-/// next sector that was read before. Nothing is lost by this pass: `rescue` reads what it left.
+/// that `pass` says, at first [`LEAST_SKIP`], and twice as many after each further failed read, up to `most` of the pass. After a piece
+/// that can be read it begins with [`LEAST_SKIP`] again. A skip ends before the next sector that was read before. If `most` is 0, as in a
+/// second pass, nothing is skipped. Nothing is lost by these passes: `rescue` reads what they left.
 ///
 /// At its deadline the pass ends. Its map then has only the sectors up to there, and a pass that goes on there skips as many
 /// sectors as this one would.
@@ -67,7 +69,7 @@ pub fn skim<D: BlockDev, O: BlockDev, P: Progress>(
     skim_ahead(alloc, stack, pass, out, Ahead::of_map(map), progress)
 }
 
-/// Runs the first pass by the marks ahead.
+/// Runs the pass by the marks ahead.
 pub(crate) fn skim_ahead<D: BlockDev, O: BlockDev, P: Progress>(
     alloc: Global,
     stack: &mut Stack<D>,
@@ -95,7 +97,7 @@ pub(crate) fn skim_ahead<D: BlockDev, O: BlockDev, P: Progress>(
     Ok(Skimmed { map, skip })
 }
 
-/// Runs the first pass through the buffer `room`, and returns how many sectors are skipped after the next failed read.
+/// Runs the pass through the buffer `room`, and returns how many sectors are skipped after the next failed read.
 fn skim_by<D: BlockDev, O: BlockDev, P: Progress>(
     stack: &mut Stack<D>,
     pass: FirstPass,
@@ -119,7 +121,6 @@ fn skim_by<D: BlockDev, O: BlockDev, P: Progress>(
     ensures called { CopiesOver D.state D.does (DeviceDoes O.state O.does) (marks_ahead ahead.entry) pass.device.0 stack.old out.old stack.new out.new result (λ skip. length (marks map.new)) }
 {
     let sectors = stack.config().sectors(pass.device);
-    let most = most_skip(sectors);
     let mut skip = pass.skip;
     let mut at = 0;
     'pieces: while at < pass_end(pass.deadline, at, sectors, progress) {
@@ -139,15 +140,15 @@ fn skim_by<D: BlockDev, O: BlockDev, P: Progress>(
                     out.write(at, bytes)?;
                     ahead.pass(count);
                     at += count;
-                    skip = LEAST_SKIP;
+                    skip = LEAST_SKIP.min(pass.most);
                 }
                 Err(fault) => {
                     check_memory(fault)?;
-                    let left = count + skip.min(run.count - count);
-                    mark(map, left, false, false)?;
-                    ahead.pass(left);
-                    at += left;
-                    skip = longer_skip(skip, most);
+                    let skipped = skip.min(run.count - count);
+                    leave(map, count, skipped)?;
+                    ahead.pass(count + skipped);
+                    at += count + skipped;
+                    skip = longer_skip(skip, pass.most);
                 }
             }
         }
@@ -155,8 +156,23 @@ fn skim_by<D: BlockDev, O: BlockDev, P: Progress>(
     Ok(skip)
 }
 
-// Returns `NoMemory` if a read ran out of memory, which no other pass mends.
-fn check_memory(fault: IoFault) -> Result<(), RecoveryFault>
+// Records in the map that a read of the next `count` sectors failed, and that `skipped` sectors after them weren't read.
+fn leave(map: &mut Map, count: u64, skipped: u64) -> Result<(), RecoveryFault>
+    requires some { 1 ≤ count }
+    requires room { length (marks map.old) + count + skipped ≤ 2 ^ 54 }
+    ensures ok { OnOk result (marks map.new ≡ marks map.old ++ replicate count false ++ replicate skipped false) }
+    ensures failed { OnOk result (losts map.new ≡ losts map.old ++ replicate count true ++ replicate skipped false) }
+    ensures err { IfErr result (λ fault. (fault ≡ recovery_fault.NoMemory) × IsOutOfMemory 1) }
+{
+    mark(map, count, false, true)?;
+    if skipped > 0 {
+        mark(map, skipped, false, false)?;
+    }
+    Ok(())
+}
+
+/// Returns `NoMemory` if a read ran out of memory, which no other pass mends.
+pub(crate) fn check_memory(fault: IoFault) -> Result<(), RecoveryFault>
     ensures ok { OnOk result (fault ≢ IoFault.NoMemory) }
     ensures err { IfErr result (λ error. error ≡ recovery_fault.NoMemory) }
     ensures memory { OnErr result (fault ≡ IoFault.NoMemory) }

@@ -1,4 +1,4 @@
-//! How many sectors the first pass skips after a read that failed.
+//! How many sectors a pass in large pieces skips after a read that failed.
 ghost use Rattle.std.specs.Prelude.{◌≡◌};
 ghost use Rattle.stack_recovery.specs.Skips.{longer_skip, most_skip};
 
@@ -10,7 +10,7 @@ const MOST_SKIP: u64 = 2_097_152;
 
 /// Returns the most sectors that are skipped at once on a device of so many: a hundredth of them, in multiples of 64 KiB, but at most 1 GiB.
 #[tactic(auto, unfolding(crate::specs::Skips::most_skip))]
-pub(crate) fn most_skip(sectors: u64) -> u64
+pub fn most_skip(sectors: u64) -> u64
     ensures value { result ≡ most_skip sectors }
 {
     (sectors / 100 / LEAST_SKIP * LEAST_SKIP)

@@ -27,7 +27,7 @@ over below hash writable = record {
 -- a tree on a device and H, with blocks of 4,096 bytes
 abbrev tree : List ℕ → List ℕ → ℕ → ℕ → Target
 tree below hash blocks start =
-    Verity (record { «data» = below; hash = hash; data_block = 4096; hash_block = 4096; blocks = blocks; start = start; root = replicate 32 0; salt = []; ignore_zero_blocks = false; corruption = Fail; in_tasklet = false; parity = None })
+    Verity (record { «data» = below; hash = hash; data_block = 4096; hash_block = 4096; blocks = blocks; start = start; root = replicate 32 0; salt = []; ignore_zero_blocks = false; corruption = Fail; in_tasklet = false; parity = None; signature_key = None })
 
 abbrev one : Bool → ℕ → Target → List Entry
 one writable sectors target = record { number = 1; name = codes "v"; writable = writable; table = record { start = 0; length = sectors; target = target } ∷ [] } ∷ []

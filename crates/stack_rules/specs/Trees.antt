@@ -25,6 +25,10 @@ block_sectors verity = verity.data_block / 512
 abbrev pub path_sectors : Verity → ℕ
 path_sectors verity = levels (tree_of verity) * (verity.hash_block / 512)
 
+-- the blocks that are verified for a sector: a hash block of each level, and the data block
+abbrev pub path_blocks : Verity → ℕ
+path_blocks verity = levels (tree_of verity) + 1
+
 -- a data block of zeros
 abbrev pub zero_block : Verity → List ℕ
 zero_block verity = replicate verity.data_block 0

@@ -21,6 +21,6 @@ pub use names::name_count;
 pub use parity::{covered_sectors, is_unprotected, mend_sectors, parity_sectors, round_count};
 pub use planned::Planned;
 pub use refusal::{ConfigFault, LoadFault, LoadKind, Refusal, RemoveFault};
-pub use tree::{block_sectors, data_sectors, path_sectors, tree_sectors, verity_of};
+pub use tree::{block_sectors, data_sectors, path_blocks, path_sectors, tree_sectors, verity_of};
 pub use units::{crypt_of, unit_sectors};
 pub use unstriped::striped_end;

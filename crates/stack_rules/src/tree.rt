@@ -2,7 +2,7 @@
 ghost use Rattle.std.specs.Prelude.{◌≡◌, ◌≤◌, ◌<◌, ◌^◌, option_copied};
 ghost use Rattle.dm_table.specs.Grammar.{IsVerityOfGrammar};
 ghost use Rattle.tree_shape.specs.Shape.{levels, area_blocks};
-ghost use Rattle.stack_rules.specs.Trees.{tree_of, line_data_sectors, line_tree_sectors, block_sectors, path_sectors, verity_of};
+ghost use Rattle.stack_rules.specs.Trees.{tree_of, line_data_sectors, line_tree_sectors, block_sectors, path_blocks, path_sectors, verity_of};
 
 use dm_table::{Target, Verity};
 
@@ -77,4 +77,13 @@ pub fn path_sectors(verity: &Verity) -> u64
     ensures few { result < 2 ^ 32 }
 {
     tree_size(verity).levels * u64::from(verity.hash_block / 512)
+}
+
+/// Returns how many blocks are verified for a sector: a hash block of each level, and the data block.
+pub fn path_blocks(verity: &Verity) -> u64
+    requires { IsVerityOfGrammar verity.now }
+    ensures value { result ≡ path_blocks verity.now }
+    ensures few { result ≤ 17 }
+{
+    tree_size(verity).levels + 1
 }

@@ -17,6 +17,7 @@ pub mod PrintedTargetLemmas
 pub mod PrintedBytesLemmas
 pub mod PrintedOptionLemmas
 pub mod PrintedCryptLemmas
+pub mod PrintedVerityOptionLemmas
 pub mod PrintedVerityLemmas
 pub mod PrintedUnstripedLemmas
 pub mod RoundTripLemmas

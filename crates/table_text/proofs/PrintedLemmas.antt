@@ -15,6 +15,7 @@ use Rattle.dm_table.specs.declared.fault.TextKind.TheVariants as kinds
 use Rattle.dm_table.specs.Words.{Word, is_white, is_graphic, words}
 use Rattle.dm_table.specs.Numbers.{number}
 use Rattle.dm_table.specs.Names.{is_device, is_mapped_name, is_mapped_byte, is_leaf_byte, is_name_of, mapper}
+use Rattle.dm_table.specs.SignatureKey.{is_key_description}
 use Rattle.dm_table.specs.Reading.{◌>>=◌}
 use Rattle.dm_table.specs.Arguments.{number_at, base_at}
 use Rattle.dm_table.specs.Grammar.{IsBaseOfGrammar}
@@ -149,6 +150,12 @@ pointwise-same (x ∷ xs) (y ∷ ys) e =
     let first = eqb-true x y parts.0 in
     let rest = pointwise-same xs ys parts.1 in cc
 
+pub printed-description : (word : Word) → is_key_description word ≡ true → IsPrinted word
+printed-description word e =
+    let parts = and_parts (leb 1 (length word) && leb (length word) 255) _ e in
+    let some = leb-true 1 (length word) (and_parts (leb 1 (length word)) _ parts.0).0 in
+    (omega arith, leaf-graphic word parts.1)
+
 pub printed-device : (word : Word) → is_device word ≡ true → IsPrinted word
 unfolding is_device is_mapped_name
 printed-device word e = elim (cases_Bool (starts_with ◌==◌ word mapper)) [
@@ -161,9 +168,7 @@ printed-device word e = elim (cases_Bool (starts_with ◌==◌ word mapper)) [
       (omega arith, list_all-append is_graphic mapper (drop 12 word) ∙ leaf-graphic (drop 12 word) (mapped-leaf (drop 12 word) rest.1))
   | inr leaf ↦
       let name = sym (cond-false (starts_with ◌==◌ word mapper) (is_name_of 127 is_mapped_byte (drop 12 word)) (is_name_of 255 is_leaf_byte word) leaf) ∙ e in
-      let parts = and_parts (leb 1 (length word) && leb (length word) 255) _ name in
-      let some = leb-true 1 (length word) (and_parts (leb 1 (length word)) _ parts.0).0 in
-      (omega arith, leaf-graphic word parts.1)
+      printed-description word name
 ]
 
 pub base_at-printed : (base : Base) → IsBaseOfGrammar base → base_at base.device (decimal base.offset) ≡ Ok base

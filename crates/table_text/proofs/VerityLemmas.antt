@@ -1,6 +1,6 @@
 -- The arguments of a `verity` line: too few, and within the grammar's limits.
 use Rattle.std.proofs.Common.{◌≡◌, ℕ, ◌/◌, ◌<◌, ◌≤◌, ◌&&◌, Bool, true, false, leb, List, [], ◌∷◌, length, drop, Ok, Err, ok_or, Option, Some, None, codes, refl, ap, sym, subst, ◌∙◌, inl, inr, arith}
-use Rattle.std.specs.Prelude.{◌⊎◌, ◌↔◌, IsSome, IfSome}
+use Rattle.std.specs.Prelude.{◌⊎◌, ◌↔◌, IsSome, IfSome, if◌then◌else◌}
 use Rattle.std.specs.Str.{bytes_eq}
 use Rattle.std.proofs.lemmas.Bool.{cases_Bool, cond-true, cond-false, and_parts, leb-true}
 use Rattle.hex.specs.Hex.{IsBytes}
@@ -12,9 +12,11 @@ use Rattle.dm_table.specs.Names.{is_device, most_name}
 use Rattle.dm_table.specs.Numbers.{number}
 use Rattle.dm_table.specs.Reading.{Read, ◌>>=◌}
 use Rattle.dm_table.specs.Arguments.{device_at, number_at, bytes_at}
-use Rattle.dm_table.specs.Options.{options_at}
+use Rattle.dm_table.specs.Options.{is_one_of, options_at}
 use Rattle.dm_table.specs.declared.parity.Parity.{Parity}
-use Rattle.dm_table.specs.Parity.{fec_at, fec_blocks, fec_roots, fec_start, has_parity, parity_at, parity_options, parity_value, roots_at, use_fec_from_device, IsParityOfGrammar}
+use Rattle.dm_table.specs.ValuedOptions.{fec_blocks, fec_roots, fec_start, option_value, root_hash_sig_key_desc, use_fec_from_device, valued_options}
+use Rattle.dm_table.specs.Parity.{fec_at, has_parity, parity_at, roots_at, IsParityOfGrammar}
+use Rattle.dm_table.specs.SignatureKey.{description_at, is_key_description, signature_key_at}
 use Rattle.dm_table.specs.Verity.{version_at, block_size_at, algorithm_at, corruption_at, digest_at, known_verity_options, salt_at, verity_at}
 use Rattle.dm_table.specs.Grammar.{IsVerityOfGrammar}
 use Rattle.dm_table.proofs.lemmas.NameLengthLemmas.{device-length}
@@ -80,13 +82,13 @@ roots_at-grammar word n e =
 fec-grammar : (words : List Word) (parity : Parity) → fec_at words ≡ Ok parity → IsParityOfGrammar parity
 unfolding fec_at
 fec-grammar words parity e =
-    let name = bind_ok (parity_value use_fec_from_device words) _ parity e in
+    let name = bind_ok (option_value use_fec_from_device words) _ parity e in
     let device = bind_ok (device_at name.0) _ parity name.2 in
-    let count = bind_ok (parity_value fec_roots words) _ parity device.2 in
+    let count = bind_ok (option_value fec_roots words) _ parity device.2 in
     let roots = bind_ok (roots_at count.0) _ parity count.2 in
-    let covered = bind_ok (parity_value fec_blocks words) _ parity roots.2 in
+    let covered = bind_ok (option_value fec_blocks words) _ parity roots.2 in
     let blocks = bind_ok (number_at covered.0) _ parity covered.2 in
-    let begin = bind_ok (parity_value fec_start words) _ parity blocks.2 in
+    let begin = bind_ok (option_value fec_start words) _ parity blocks.2 in
     let start = bind_ok (number_at begin.0) _ parity begin.2 in
     let within = roots_at-grammar count.0 roots.0 roots.1 in
     subst IsParityOfGrammar (ok_same _ parity start.2) (record {
@@ -117,6 +119,38 @@ parity-grammar options words (Some parity) e = elim (cases_Bool (has_parity opti
   | inr none ↦ let h = sym (cond-false (has_parity options) _ _ none) ∙ e in cc
 ]
 
+-- a key description, or none
+pub signature_key-none : (options words : List Word) → is_one_of root_hash_sig_key_desc options ≡ false → signature_key_at options words ≡ Ok None
+unfolding signature_key_at
+signature_key-none options words none = cond-false _ _ _ none
+
+pub signature_key-some : (options words : List Word) (read : Read Word) → is_one_of root_hash_sig_key_desc options ≡ true → description_at words ≡ read
+    → signature_key_at options words ≡ (read >>= (λ key. Ok (Some key)))
+unfolding signature_key_at
+signature_key-some options words read some e = cond-true _ _ _ some ∙ ap (λ r. r >>= (λ key. Ok (Some key))) e
+
+-- the description, or the fault of a word that is none
+pub description-read : (words : List Word) (word : Word) → option_value root_hash_sig_key_desc words ≡ Ok word → is_key_description word ≡ true → description_at words ≡ Ok word
+unfolding description_at
+description-read words word e is = ap (λ r. r >>= (λ w. if is_key_description w then Ok w else Err kinds.Option)) e ∙ cond-true _ _ _ is
+
+pub description-fault : (words : List Word) (word : Word) → option_value root_hash_sig_key_desc words ≡ Ok word → is_key_description word ≡ false → description_at words ≡ Err kinds.Option
+unfolding description_at
+description-fault words word e none = ap (λ r. r >>= (λ w. if is_key_description w then Ok w else Err kinds.Option)) e ∙ cond-false _ _ _ none
+
+signature_key-grammar : (options words : List Word) (key : Option Word) → signature_key_at options words ≡ Ok key → IfSome key (λ key. is_key_description key ≡ true)
+unfolding signature_key_at description_at
+signature_key-grammar options words None e = tt
+signature_key-grammar options words (Some key) e = elim (cases_Bool (is_one_of root_hash_sig_key_desc options)) [
+  | inl has ↦
+      let read = bind_ok (description_at words) _ (Some key) (sym (cond-true (is_one_of root_hash_sig_key_desc options) _ _ has) ∙ e) in
+      let same : read.0 ≡ key = let h = read.2 in cc in
+      let word = bind_ok (option_value root_hash_sig_key_desc words) _ key (read.1 ∙ ap Ok same) in
+      let is = chosen (is_key_description word.0) (Ok word.0) kinds.Option key word.2 in
+      subst (λ (w : Word). is_key_description w ≡ true) (ok_same word.0 key is.1) is.0
+  | inr none ↦ let h = sym (cond-false (is_one_of root_hash_sig_key_desc options) _ _ none) ∙ e in cc
+]
+
 -- what was read keeps to the grammar's limits
 pub verity-grammar : (words : List Word) (verity : Verity) → verity_at words ≡ Ok verity → IsVerityOfGrammar verity
 unfolding verity_at
@@ -141,12 +175,13 @@ verity-grammar (version ∷ dev ∷ hash_dev ∷ data_size ∷ hash_size ∷ cou
     let known = bind_ok (algorithm_at algorithm) _ verity start.2 in
     let root = bind_ok (digest_at digest) _ verity known.2 in
     let salt = bind_ok (salt_at digits) _ verity root.2 in
-    let options = bind_ok (options_at known_verity_options parity_options params) _ verity salt.2 in
+    let options = bind_ok (options_at known_verity_options valued_options params) _ verity salt.2 in
     let corruption = bind_ok (corruption_at options.0) _ verity options.2 in
     let parity = bind_ok (parity_at options.0 (drop 1 params)) _ verity corruption.2 in
+    let key = bind_ok (signature_key_at options.0 (drop 1 params)) _ verity parity.2 in
     let root_bytes = bytes_at-grammar 32 kinds.Digest digest root.0 root.1 in
     let salt_bytes = salt_at-grammar digits salt.0 salt.1 in
-    subst IsVerityOfGrammar (ok_same _ verity parity.2) (record {
+    subst IsVerityOfGrammar (ok_same _ verity key.2) (record {
       devices = record { below = device_at-grammar dev below.0 below.1; hash = device_at-grammar hash_dev hash.0 hash.1 };
       places = record {
         data_block = block_size_at-grammar data_size data_block.0 data_block.1;
@@ -159,6 +194,7 @@ verity-grammar (version ∷ dev ∷ hash_dev ∷ data_size ∷ hash_size ∷ cou
       salt_size = salt_bytes.0;
       salt_bytes = salt_bytes.1;
       parity = parity-grammar options.0 (drop 1 params) parity.0 parity.1;
+      signature_key = signature_key-grammar options.0 (drop 1 params) key.0 key.1;
     })
 
 pub salt_at-size : (word : Word) → bytes_eq word (codes "-") ≡ false → (length word < 2) ⊎ ((2 ≤ length word) × (512 < length word)) → salt_at word ≡ Err kinds.Salt

@@ -24,9 +24,9 @@ crypt_line options =
     line 0 8 (crypt_target (record { key = key; iv_offset = 7; base = base (codes "D") 16; options = options }))
 
 -- a `verity` line
-abbrev verity_line : List ℕ → Bool → Option Parity → Line
-verity_line salt ignores parity =
-    line 0 8 (verity_target (record { «data» = codes "D"; hash = codes "/dev/mapper/t"; data_block = 4096; hash_block = 512; blocks = 1; start = 3; root = replicate 32 171; salt = salt; ignore_zero_blocks = ignores; corruption = Fail; in_tasklet = false; parity = parity }))
+abbrev verity_line : List ℕ → Bool → Option Parity → Option (List ℕ) → Line
+verity_line salt ignores parity key =
+    line 0 8 (verity_target (record { «data» = codes "D"; hash = codes "/dev/mapper/t"; data_block = 4096; hash_block = 512; blocks = 1; start = 3; root = replicate 32 171; salt = salt; ignore_zero_blocks = ignores; corruption = Fail; in_tasklet = false; parity = parity; signature_key = key }))
 
 -- a printed table
 printed : printed_table false (line 0 8 (Linear (base (codes "D") 2)) ∷ line 8 32 (Striped 8 (base (codes "A") 0 ∷ base (codes "/dev/mapper/b") 16 ∷ [])) ∷ line 40 1 Error ∷ line 41 1 Zero ∷ [])
@@ -37,8 +37,9 @@ printed = refl
 -- lines printed with the key, and with zeros in place of it
 printed_keys : (printed_table true (crypt_line (codes "allow_discards" ∷ []) ∷ []) ≡ codes "0 8 crypt aes-xts-plain64 0a0a0a0a0a0a0a0a0a0a0a0a0a0a0a0ab1b1b1b1b1b1b1b1b1b1b1b1b1b1b1b1 7 D 16 1 allow_discards\n")
     × (printed_table false (crypt_line [] ∷ []) ≡ codes "0 8 crypt aes-xts-plain64 0000000000000000000000000000000000000000000000000000000000000000 7 D 16\n")
-    × (printed_table false (verity_line [] false None ∷ []) ≡ codes "0 8 verity 1 D /dev/mapper/t 4096 512 1 3 sha256 abababababababababababababababababababababababababababababababab -\n")
-    × (printed_table false (verity_line (10 ∷ 11 ∷ []) true None ∷ []) ≡ codes "0 8 verity 1 D /dev/mapper/t 4096 512 1 3 sha256 abababababababababababababababababababababababababababababababab 0a0b 1 ignore_zero_blocks\n")
-    × (printed_table false (verity_line [] true (Some (record { device = codes "P"; roots = 2; blocks = 7; start = 0 })) ∷ []) ≡ codes "0 8 verity 1 D /dev/mapper/t 4096 512 1 3 sha256 abababababababababababababababababababababababababababababababab - 9 ignore_zero_blocks use_fec_from_device P fec_blocks 7 fec_start 0 fec_roots 2\n")
+    × (printed_table false (verity_line [] false None None ∷ []) ≡ codes "0 8 verity 1 D /dev/mapper/t 4096 512 1 3 sha256 abababababababababababababababababababababababababababababababab -\n")
+    × (printed_table false (verity_line (10 ∷ 11 ∷ []) true None None ∷ []) ≡ codes "0 8 verity 1 D /dev/mapper/t 4096 512 1 3 sha256 abababababababababababababababababababababababababababababababab 0a0b 1 ignore_zero_blocks\n")
+    × (printed_table false (verity_line [] true (Some (record { device = codes "P"; roots = 2; blocks = 7; start = 0 })) None ∷ []) ≡ codes "0 8 verity 1 D /dev/mapper/t 4096 512 1 3 sha256 abababababababababababababababababababababababababababababababab - 9 ignore_zero_blocks use_fec_from_device P fec_blocks 7 fec_start 0 fec_roots 2\n")
+    × (printed_table false (verity_line [] true None (Some (codes "verity:vendor")) ∷ []) ≡ codes "0 8 verity 1 D /dev/mapper/t 4096 512 1 3 sha256 abababababababababababababababababababababababababababababababab - 3 ignore_zero_blocks root_hash_sig_key_desc verity:vendor\n")
 unfolding digits line_text target_words crypt_words verity_words encode_with
-printed_keys = (refl, refl, refl, refl, refl)
+printed_keys = (refl, refl, refl, refl, refl, refl)

@@ -1,12 +1,12 @@
 //! Reading the parity of a `verity` line.
-ghost use Rattle.std.specs.Prelude.{◌≡◌, drop, Ok, Err, MatchResult};
+ghost use Rattle.std.specs.Prelude.{◌≡◌, drop};
 ghost use Rattle.table_text.specs.Reading.{IsReading};
-ghost use Rattle.dm_table.specs.Parity.{fec_at, has_parity, parity_at, parity_value, roots_at};
+ghost use Rattle.dm_table.specs.Parity.{fec_at, has_parity, parity_at, roots_at};
 
 use crate::cut::Words;
 use crate::line_fault::LineFault;
 use crate::numbers::read_number;
-use crate::option_words::value_of;
+use crate::option_values::option_value;
 use crate::verity_arguments::check_device;
 use dm_table::{Name, Options, Parity, TextKind, is_kept};
 use std::alloc::Global;
@@ -39,11 +39,11 @@ fn has_parity(options: &Options) -> bool
 fn read_fec(alloc: Global, words: &Words<'_>) -> Result<Parity, LineFault>
     ensures { IsReading result (fec_at words.now) }
 {
-    let device = parity_value(words, b"use_fec_from_device")?;
+    let device = option_value(words, b"use_fec_from_device")?;
     check_device(device)?;
-    let roots = read_roots(parity_value(words, b"fec_roots")?)?;
-    let blocks = read_number(parity_value(words, b"fec_blocks")?)?;
-    let start = read_number(parity_value(words, b"fec_start")?)?;
+    let roots = read_roots(option_value(words, b"fec_roots")?)?;
+    let blocks = read_number(option_value(words, b"fec_blocks")?)?;
+    let start = read_number(option_value(words, b"fec_start")?)?;
     let device = Name::new(alloc, device)?;
     Ok(Parity {
         device,
@@ -51,23 +51,6 @@ fn read_fec(alloc: Global, words: &Words<'_>) -> Result<Parity, LineFault>
         blocks,
         start,
     })
-}
-
-fn parity_value<'a>(words: &Words<'a>, name: &[u8]) -> Result<&'a [u8], TextKind>
-    ensures { MatchResult result
-        (λ value. parity_value name.now words.now ≡ Ok value.now)
-        (λ kind. parity_value name.now words.now ≡ Err kind) }
-{
-    value_of(
-        words.again(),
-        name,
-        &[
-            "use_fec_from_device",
-            "fec_roots",
-            "fec_blocks",
-            "fec_start",
-        ],
-    )
 }
 
 fn read_roots(word: &[u8]) -> Result<u32, TextKind>

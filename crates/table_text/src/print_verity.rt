@@ -3,13 +3,14 @@ ghost use Rattle.std.specs.Prelude.{◌≡◌, ◌≤◌, ◌+◌, ◌∷◌, �
 ghost use Rattle.allocation.specs.Asked.{asked};
 ghost use Rattle.table_text.specs.ArgumentWords.{options_words, salt_word, verity_words};
 ghost use Rattle.dm_table.specs.Parity.{parity_words};
+ghost use Rattle.dm_table.specs.SignatureKey.{signature_words};
 ghost use Rattle.dm_table.specs.Verity.{corruption_words, verity_options, word_if};
 ghost use Rattle.table_text.specs.Print.{PrintsWords, printed_length};
 
 use crate::print::{push_spaced, push_spaced_number};
 use crate::print_digits::push_digits;
 use allocation::OutOfMemory;
-use dm_table::{CorruptionMode, Parity, Verity};
+use dm_table::{CorruptionMode, Name, Parity, Verity};
 
 /// Prints the type and arguments of a `verity` line.
 pub(crate) fn print_verity(text: &mut Vec<u8>, verity: &Verity) -> Result<(), OutOfMemory>
@@ -57,6 +58,7 @@ fn print_options(text: &mut Vec<u8>, verity: &Verity) -> Result<(), OutOfMemory>
     print_if(text, verity.ignore_zero_blocks, b"ignore_zero_blocks")?;
     print_if(text, verity.in_tasklet, b"try_verify_in_tasklet")?;
     print_parity(text, &verity.parity)?;
+    print_signature_key(text, &verity.signature_key)?;
     Ok(())
 }
 
@@ -73,7 +75,15 @@ fn option_count(verity: &Verity) -> u64
         Some(_) => 8,
         None => 0,
     };
-    corruption + u64::from(verity.ignore_zero_blocks) + u64::from(verity.in_tasklet) + parity
+    let signature = match &verity.signature_key {
+        Some(_) => 2,
+        None => 0,
+    };
+    corruption
+        + u64::from(verity.ignore_zero_blocks)
+        + u64::from(verity.in_tasklet)
+        + parity
+        + signature
 }
 
 fn print_corruption(text: &mut Vec<u8>, mode: CorruptionMode) -> Result<(), OutOfMemory>
@@ -120,5 +130,24 @@ fn print_fec(text: &mut Vec<u8>, parity: &Parity) -> Result<(), OutOfMemory>
     push_spaced_number(text, parity.start)?;
     push_spaced(text, b"fec_roots")?;
     push_spaced_number(text, u64::from(parity.roots))?;
+    Ok(())
+}
+
+fn print_signature_key(text: &mut Vec<u8>, key: &Option<Name>) -> Result<(), OutOfMemory>
+    ensures ok { OnOk result (PrintsWords text.old (signature_words key.now) text.new) }
+    ensures err { IfErr result (λ e. asked e ≤ printed_length (signature_words key.now)) }
+{
+    match key {
+        Some(key) => print_description(text, key),
+        None => Ok(()),
+    }
+}
+
+fn print_description(text: &mut Vec<u8>, key: &Name) -> Result<(), OutOfMemory>
+    ensures ok { OnOk result (PrintsWords text.old (signature_words (Some key.now)) text.new) }
+    ensures err { IfErr result (λ e. asked e ≤ printed_length (signature_words (Some key.now))) }
+{
+    push_spaced(text, b"root_hash_sig_key_desc")?;
+    push_spaced(text, key.as_slice())?;
     Ok(())
 }

@@ -4,7 +4,7 @@ ghost use Rattle.dm_table.specs.declared.fault.TextKind.TheVariants as kinds;
 ghost use Rattle.table_text.specs.Reading.{IsReading};
 ghost use Rattle.dm_table.specs.Arguments.{bytes_at, device_at};
 ghost use Rattle.dm_table.specs.Options.{options_at};
-ghost use Rattle.dm_table.specs.Parity.{parity_options};
+ghost use Rattle.dm_table.specs.ValuedOptions.{valued_options};
 ghost use Rattle.dm_table.specs.Verity.{algorithm_at, block_size_at, corruption_at, digest_at, known_verity_options, salt_at, verity_at, version_at};
 
 use crate::cut::Words;
@@ -13,6 +13,7 @@ use crate::line_fault::LineFault;
 use crate::numbers::{number, read_number};
 use crate::option_words::read_options;
 use crate::parity_arguments::read_parity;
+use crate::signature_arguments::read_signature_key;
 use dm_table::{CorruptionMode, Name, Options, TextKind, Verity, is_device, is_kept};
 use std::alloc::Global;
 use tree_shape::{Algorithm, Digest, Salt, is_block_size};
@@ -52,7 +53,8 @@ pub(crate) fn read_verity(alloc: Global, mut arguments: Words<'_>) -> Result<Ver
     let salt = read_salt(algorithm, words.salt)?;
     let options = read_verity_options(alloc, arguments.again())?;
     let corruption = corruption_mode(&options)?;
-    let parity = read_parity(alloc, arguments, &options)?;
+    let parity = read_parity(alloc, arguments.again(), &options)?;
+    let signature_key = read_signature_key(alloc, arguments, &options)?;
     let ignore_zero_blocks = is_kept(&options, b"ignore_zero_blocks");
     let in_tasklet = is_kept(&options, b"try_verify_in_tasklet");
     let data = Name::new(alloc, words.device)?;
@@ -70,6 +72,7 @@ pub(crate) fn read_verity(alloc: Global, mut arguments: Words<'_>) -> Result<Ver
         corruption,
         in_tasklet,
         parity,
+        signature_key,
     })
 }
 
@@ -169,7 +172,7 @@ fn decode_salt(algorithm: Algorithm, word: &[u8], room: &mut [u8]) -> Result<Sal
 }
 
 fn read_verity_options(alloc: Global, arguments: Words<'_>) -> Result<Options, LineFault>
-    ensures { IsReading result (options_at known_verity_options parity_options arguments.entry) }
+    ensures { IsReading result (options_at known_verity_options valued_options arguments.entry) }
 {
     read_options(
         alloc,
@@ -179,12 +182,14 @@ fn read_verity_options(alloc: Global, arguments: Words<'_>) -> Result<Options, L
             "restart_on_corruption",
             "panic_on_corruption",
             "try_verify_in_tasklet",
+            "root_hash_sig_key_desc",
             "use_fec_from_device",
             "fec_roots",
             "fec_blocks",
             "fec_start",
         ],
         &[
+            "root_hash_sig_key_desc",
             "use_fec_from_device",
             "fec_roots",
             "fec_blocks",

@@ -1,5 +1,6 @@
 -- The table line of a verity image.
-use Rattle.std.proofs.Common.{◌≡◌, ℕ, ◌^◌, ◌<◌, List, arith}
+use Rattle.std.proofs.Common.{◌≡◌, ℕ, ◌+◌, ◌^◌, ◌<◌, List, arith}
+use Rattle.allocation.specs.Refusal.{IsOutOfMemory}
 use Rattle.tree_shape.proofs.lemmas.ShapeFaultLemmas.{blocks-le}
 use Rattle.dm_table.specs.Grammar.{IsLineOfGrammar}
 use Rattle.table_text.proofs.lemmas.ReadBackLemmas.{line-reads-back}
@@ -23,8 +24,15 @@ line-limits tree names root start p fits =
         salt_size = p.salt_size;
         salt_bytes = p.salt_bytes;
         parity = p.parity;
+        signature_key = tt;
       };
     }
 
 pub lines-read-back : TableLinesReadBack
 lines-read-back tree names root start p fits = line-reads-back (image_line tree names root start) (line-limits tree names root start p fits)
+
+-- room that was refused is at most a larger one
+pub room-beside : (names text : ℕ) → IsOutOfMemory text → IsOutOfMemory (names + text)
+room-beside names text out =
+    let within = out.1 in
+    (out.0, omega (arith, within), out.2)

@@ -46,6 +46,7 @@ image_line tree names root start = record {
     corruption = Fail;
     in_tasklet = false;
     parity = names.parity;
+    signature_key = None;
   });
 }
 

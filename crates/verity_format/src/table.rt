@@ -106,6 +106,7 @@ fn image_line(
             corruption: CorruptionMode::Fail,
             in_tasklet: false,
             parity,
+            signature_key: None,
         }),
     })
 }

@@ -7,9 +7,7 @@ mod service;
 
 pub use block_device::{BlockDev, DeviceFault, FileDev, MemoryDev, OpenFault, SyncDev};
 pub use image::{BlockFault, VerityImage};
-pub use nbd_server::{
-    Export, FirstFault, FirstFaults, ServiceFault, SessionEnd, SessionLog, Tally, serve,
-};
+pub use nbd_server::{Export, ExportFault, ServiceFault, SessionEnd, SessionLog, Tally, serve};
 pub use program_io::{Counted, WriteFault};
 pub use request_queue::{BytesFault, PieceFault, Queue, Reply, Request, RunFault};
 pub use service::serve_device;

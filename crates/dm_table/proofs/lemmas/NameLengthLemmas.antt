@@ -1,4 +1,4 @@
--- No name and no option has more than 255 bytes.
+-- No name, key description or option has more than 255 bytes.
 use Rattle.std.proofs.Common.{◌≡◌, ℕ, ◌≤◌, Bool, true, List, [], ◌∷◌, length, drop, sym, refl, subst, ◌∙◌, not, ◌&&◌, inl, inr, arith}
 use Rattle.std.specs.Prelude.{◌==◌, All, nat_le}
 use Rattle.std.specs.List.{AllByRecursion, list_all, starts_with}
@@ -10,6 +10,7 @@ use Rattle.std.proofs.lemmas.Slice.Eq.{bytes_eq-Decides}
 use Rattle.dm_table.specs.Crypt.{crypt_options}
 use Rattle.dm_table.specs.Names.{is_device, is_leaf_byte, is_mapped_byte, is_mapped_name, is_name_of, mapper, most_name}
 use Rattle.dm_table.specs.Options.{are_options, has_name_of, is_one_of, AreOptionsOfGrammar}
+use Rattle.dm_table.specs.SignatureKey.{is_key_description}
 use Rattle.dm_table.specs.Words.{Word}
 
 name-length : (most : ℕ) (word : Word) (rest : Bool) → (nat_le 1 (length word) && nat_le (length word) most && rest) ≡ true → length word ≤ most
@@ -32,6 +33,9 @@ device-length word e = elim (cases_Bool (starts_with ◌==◌ word mapper)) [
       let name = sym (cond-false (starts_with ◌==◌ word mapper) (is_name_of 127 is_mapped_byte (drop 12 word)) (is_name_of 255 is_leaf_byte word) leaf) ∙ e in
       name-length 255 word (list_all is_leaf_byte word) name
 ]
+
+pub description-length : (word : Word) → is_key_description word ≡ true → length word ≤ most_name
+description-length word e = name-length most_name word (list_all is_leaf_byte word) e
 
 -- one of some words is no longer than the longest
 pub one-length : (most : ℕ) (known : List Word) (word : Word) → list_all (λ (w : Word). nat_le (length w) most) known ≡ true → is_one_of word known ≡ true → length word ≤ most

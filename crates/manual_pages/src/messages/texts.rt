@@ -37,7 +37,7 @@ pub fn text_message(kind: TextKind) -> &'static str
         TextKind::Salt =>
             "the salt is neither '-' nor an even number of hexadecimal digits, from 2 to 512",
         TextKind::Option =>
-            "an option is unknown or given twice: remove it, and lower the number of options",
+            "an option is unknown, given twice or has no fitting value: correct it, or remove it and lower the number of options",
         TextKind::StripeCount =>
             "the number of stripes isn't supported: it is 1 to 16, or 1 to 2^32 - 1 of an unstriped line",
         TextKind::ZeroChunk =>

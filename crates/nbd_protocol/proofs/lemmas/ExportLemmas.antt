@@ -28,11 +28,11 @@ module _ {X Y : Type 0} (f : X → Y) where
 -- the place that is asked for is that of an export
 pub asked-inside : (es : List ExportRecord) (name : List ℕ) (place : ℕ) → asked es name ≡ Some place → place < length es
 unfolding asked
-asked-inside es name place is = go ((length name == 0) && (length es == 1)) refl is
+asked-inside es name place is = go ((length name == 0) && nat_lt 0 (length es)) refl is
   where
-    go : (only : Bool) → ((length name == 0) && (length es == 1)) ≡ only → (if only then Some 0 else export_place es name) ≡ Some place → place < length es
-    go true only is = grind (arith)
-    go false only is = (position-Some (λ e. bytes_eq e.name name) es place no_export is).0
+    go : (is_first : Bool) → ((length name == 0) && nat_lt 0 (length es)) ≡ is_first → (if is_first then Some 0 else export_place es name) ≡ Some place → place < length es
+    go true first is = grind (arith)
+    go false first is = (position-Some (λ e. bytes_eq e.name name) es place no_export is).0
 
 -- ---- exports of a configuration
 

@@ -3,13 +3,13 @@ use Rattle.std.proofs.Common.{List, ℕ, inl, inr, Result}
 use Rattle.nbd_protocol.specs.Exports.{ExportRecord}
 use Rattle.nbd_protocol.specs.declared.fault.ServiceFault.{ServiceFault}
 use Rattle.nbd_server.specs.Service.{IsHeld, IsService, IsServiceDone}
-use Rattle.nbd_server.specs.declared.first_faults.FirstFault.{FirstFault}
+use Rattle.nbd_server.specs.declared.known_faults.ExportFault.{ExportFault}
 use Rattle.nbd_server.specs.declared.session_end.SessionEnd.{SessionEnd}
 use Rattle.nbd_server.specs.declared.session_log.SessionLog.{SessionLog}
 use Rattle.program_io.specs.Streams.{Streams}
 use Rattle.request_queue.specs.World.{World}
 
-module _ (es : List ExportRecord) (first last : World) (old new : Streams) (log : SessionLog) (Reports Reports' : List FirstFault → Type 0) (result : Result SessionEnd ServiceFault) (implies : (faults : List FirstFault) → Reports faults → Reports' faults) where
+module _ (es : List ExportRecord) (first last : World) (old new : Streams) (log : SessionLog) (Reports Reports' : List ExportFault → Type 0) (result : Result SessionEnd ServiceFault) (implies : (faults : List ExportFault) → Reports faults → Reports' faults) where
   held-as : (taken written : List ℕ) → IsHeld es first last new.input log Reports result taken written → IsHeld es first last new.input log Reports' result taken written
   held-as taken written h = record {
     phase = h.phase;

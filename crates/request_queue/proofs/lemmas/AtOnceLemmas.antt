@@ -11,6 +11,7 @@ use Rattle.request_queue.specs.declared.range.SectorRange.{SectorRange}
 use Rattle.request_queue.specs.declared.fault.PieceFault.{PieceFault}
 use Rattle.request_queue.specs.AtOnce.{EndsRead, EndsSteps, EndsWrite, IsNextPiece, IsNextWrite, IsPieceOf, ReadsInTurn, WritesBeside, WritesInSteps, failed_read, no_read, a_read, last_read, no_step, a_step, last_step, bytes_after, sector_after}
 use Rattle.request_queue.specs.Flights.{FlightRecord}
+use Rattle.request_queue.specs.Ranges.{most_piece}
 use Rattle.request_queue.specs.Parts.{EachPart}
 use Rattle.request_queue.specs.Runs.{IsLed}
 use Rattle.request_queue.specs.World.{PieceWritten, World, world, write_piece}
@@ -48,15 +49,15 @@ failed-inside range w piece w' ended = piece-of ended.0 piece ended.1
 
 -- ---- one piece more
 
--- a piece of as many sectors as `aligned_len` says is the next one
-pub next-piece : (c : Configuration) (d first rest n left bytes : ℕ) → IsAlignedLen c d first rest 128 n → bytes ≡ 512 * n → left ≡ 512 * rest → IsNextPiece c d first left bytes
+-- a piece of as many sectors as `aligned_len` says is the next one of a write
+pub next-piece : (c : Configuration) (d first rest n left bytes : ℕ) → IsAlignedLen c d first rest most_piece n → bytes ≡ 512 * n → left ≡ 512 * rest → IsNextPiece most_piece c d first left bytes
 next-piece c d first rest n left bytes len size all =
     let sectors : rest ≡ left / 512 = omega (arith, all) in
     record {
-      value = size ∙ ap (λ (k : ℕ). 512 * k) (len.value ∙ ap (λ (r : ℕ). aligned_len c d first r 128) sectors);
+      value = size ∙ ap (λ (k : ℕ). 512 * k) (len.value ∙ ap (λ (r : ℕ). aligned_len c d first r most_piece) sectors);
       whole = omega (arith, size);
       some = omega (arith, size, len.some);
-      most = omega (arith, size, len.few);
+      few = omega (arith, size, len.few);
       inside = omega (arith, size, len.inside, all);
     }
 

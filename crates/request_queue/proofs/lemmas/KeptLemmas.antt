@@ -1,6 +1,7 @@
 -- What reads leave of the kept hash blocks, one after another, and what holds of those that are kept after any calls.
-use Rattle.std.proofs.Common.{◌≡◌, ◌≤◌, ℕ, ◌+◌, ◌/◌, List, [], ◌∷◌, All, map, get_or, refl, sym, ap, ◌∙◌, subst, arith, Result, Ok, Err}
+use Rattle.std.proofs.Common.{◌≡◌, ◌≤◌, ℕ, ◌+◌, ◌/◌, List, [], ◌∷◌, None, map, refl, sym, ap, ◌∙◌, subst, arith, Result, Ok, Err}
 use Rattle.std.specs.List.{IsDistinct}
+use Rattle.std.proofs.lemmas.Option.{IfSome_then}
 use Rattle.std.proofs.lemmas.List.Elements.{All-nil}
 use Rattle.block_device.specs.Device.{Device, synced}
 use Rattle.dm_table.specs.declared.stack.Entry.{Entry}
@@ -8,16 +9,12 @@ use Rattle.stack_rules.specs.declared.refusal.LoadFault.{LoadFault}
 use Rattle.stack_rules.specs.declared.refusal.RemoveFault.{RemoveFault}
 use Rattle.stack_rules.specs.Names.{mapped}
 use Rattle.stack_rules.specs.Records.{Configuration}
-use Rattle.stack_meaning.specs.Blocks.{hash_place, hash_sectors}
 use Rattle.stack_meaning.specs.declared.fault.IoFault.{IoFault}
-use Rattle.stack_meaning.specs.Agreement.{AgreesOn}
-use Rattle.stack_meaning.specs.Leaves.{AreSteady, AreRead}
-use Rattle.stack_meaning.specs.Meaning.{said_at, said_by_name}
-use Rattle.stack_meaning.specs.Outcomes.{Images, span}
+use Rattle.stack_meaning.specs.Leaves.{AreRead}
+use Rattle.stack_meaning.specs.Meaning.{said_at}
 use Rattle.stack_meaning.specs.Reading.{MeetVerity}
-use Rattle.stack_meaning.proofs.lemmas.LeafListLemmas.{AreSteady-kept, images-kept}
-use Rattle.stack_lines.specs.Caches.{IsCached}
-use Rattle.stack_lines.specs.Standing.{name_stands_on}
+use Rattle.stack_lines.specs.Caches.{Capacity, IsCachedData}
+use Rattle.stack_lines.proofs.lemmas.StoredLemmas.{stored-read}
 use Rattle.stack_engine.specs.KeptBlocks.{AreChecked, ReadKeeps}
 use Rattle.stack_engine.specs.Stacks.{StackRecord, AnswerRecord}
 use Rattle.stack_engine.proofs.lemmas.SyncLemmas.{synced-read, unsynced-read}
@@ -70,25 +67,17 @@ bytes-kept w d first size answer w' s =
 
 -- those that are kept, where leaves are read or synced
 leaves-checked : {n : ℕ} (v : StackRecord) (leaves : List Device) → AreRead v.leaves n leaves → AreChecked v → AreChecked (record v { leaves = leaves })
-leaves-checked v leaves read checked = record { few = checked.few; distinct = checked.distinct; each = cached }
-  where
-    cached : All (IsCached v.config leaves) v.kept
-    cached i d below =
-        let one = checked.each i d below in
-        let key = (get_or v.kept i d).key in
-        record {
-          verity = one.verity;
-          line = one.line;
-          block = one.block;
-          exact = λ steady agrees.
-              let before : AreSteady (λ j. name_stands_on v.config j one.verity.hash) v.leaves = AreSteady-kept leaves v.leaves (sym read.moved.fixed) steady in
-              ap (λ (m : Images). span (λ s. (said_by_name v.config one.verity.hash s).means m) (hash_place one.verity key.level key.block) (hash_sectors one.verity)) (images-kept read)
-              ∙ one.exact before (subst (AgreesOn v.config (λ j. name_stands_on v.config j one.verity.hash)) (images-kept read) agrees);
-        }
+leaves-checked v leaves read checked = record {
+  few = checked.few;
+  distinct = checked.distinct;
+  each = λ i d below. stored-read read (checked.each i d below);
+  last = IfSome_then v.last {P = IsCachedData v.config v.leaves} {Q = IsCachedData v.config leaves} checked.last (λ b. stored-read read);
+  room = checked.room;
+}
 
-none-checked : (c : Configuration) (leaves : List Device) (capacity : ℕ) {restored : ℕ} → AreChecked (record { config = c; leaves = leaves; capacity = capacity; kept = []; restored = restored })
+none-checked : (c : Configuration) (leaves : List Device) (capacity : Capacity) {restored : ℕ} → AreChecked (record { config = c; leaves = leaves; capacity = capacity; kept = []; last = None; restored = restored })
 unfolding IsDistinct
-none-checked c leaves capacity = record { few = omega arith; distinct = tt; each = All-nil _ }
+none-checked c leaves capacity = record { few = omega arith; distinct = tt; each = All-nil _; last = tt; room = λ none. refl }
 
 checked-same : (v v' : StackRecord) → v' ≡ v → AreChecked v → KeepsChecked v v'
 checked-same v v' same checked = subst (KeepsChecked v) (sym same) (record { capacity = refl; checked = checked })

@@ -94,7 +94,7 @@ module _ (base : StackRecord) (loaded : IsLoaded base.config) (range : SectorRan
     -- where memory ran out nothing more was written
     put-nothing : EachWrite w.stack range.device.0 (range.first + u.done) (next_bytes bytes u.done n) (Err io.NoMemory) w'.stack → WritesInPieces base range.device.0 range.first (take (512 * u.done) bytes) (Ok tt) w'.stack
     put-nothing p =
-        let same : w.stack ≡ w'.stack = same-stack w.stack w'.stack (sym p.any.config) (sym p.any.ends.0) (sym p.any.capacity) (sym (p.any.short refl)) (sym p.any.restored) in
+        let same : w.stack ≡ w'.stack = same-stack w.stack w'.stack (sym p.any.config) (sym p.any.ends.0) (sym p.any.capacity) (sym (p.any.short refl).0, sym (p.any.short refl).1) (sym p.any.restored) in
         subst (λ x. WritesInPieces base range.device.0 range.first (take (512 * u.done) bytes) (Ok tt) x) same u.put
 
     put-fails : (fault : IoFault) → u.done < range.count → EachWrite w.stack range.device.0 (range.first + u.done) (next_bytes bytes u.done n) (Err fault) w'.stack → WritesWhole base range bytes (Err fault) w'.stack

@@ -17,7 +17,8 @@ use Rattle.rescue_map.specs.Blocks.{block_at, is_status, map_block, most_bytes}
 use Rattle.rescue_map.specs.Maps.{marks}
 use Rattle.rescue_map.specs.MapText.{blocks_behind, blocks_from, map_of, parsed, said}
 use Rattle.rescue_map.specs.Statuses.{is_bad, is_recovered, least}
-use Rattle.rescue_map.specs.Tails.{block_runs, block_tail, blocks_runs, blocks_tail, completed, lacking, no_tail, run_of, whole_run}
+use Rattle.rescue_map.specs.Stages.{run_of}
+use Rattle.rescue_map.specs.Tails.{block_runs, block_tail, blocks_runs, blocks_tail, completed, lacking, no_tail, whole_run}
 use Rattle.rescue_map.proofs.TailLemmas.{bytes-block, length-both, runs-past, runs-within, tail-few, within}
 
 blocks-same : (a b : List Block) → ◌≡◌ {A = Result (List Block) MapFault} (Ok a) (Ok b) → a ≡ b

@@ -28,4 +28,4 @@ ending_message (command.Partitions fault) = partitions_message fault
 ending_message (command.Trees fault) = tree_message fault
 ending_message (command.Session fault) = None
 ending_message (command.Service fault) = service_message fault
-ending_message (command.Faults tally) = Some faults_message
+ending_message (command.Faults tally) = Some (faults_message tally)

@@ -7,7 +7,7 @@ use crate::fault::CommandFault;
 use crate::messages::images::{fec_message, verity_message};
 use crate::messages::partitions::partitions_message;
 use crate::messages::scans::recovering_message;
-use crate::messages::services::service_message;
+use crate::messages::services::{faults_message, service_message};
 use crate::messages::stacks::{request_message, stack_message};
 use crate::messages::streams::stream_message;
 use crate::messages::trees::tree_message;
@@ -33,8 +33,6 @@ pub fn ending_message(fault: CommandFault<'_>) -> Option<&'static str>
         CommandFault::Trees(fault) => tree_message(fault),
         CommandFault::Session(_) => None,
         CommandFault::Service(fault) => service_message(fault),
-        CommandFault::Faults(_) => Some(
-            "requests of the client failed: 'scan' on the same stack prints the sectors that can't be read",
-        ),
+        CommandFault::Faults(tally) => faults_message(tally),
     }
 }

@@ -1,9 +1,9 @@
 //! The sentences on the service of a client.
-ghost use Rattle.std.specs.Prelude.{◌≡◌};
+ghost use Rattle.std.specs.Prelude.{◌≡◌, Some};
 ghost use Rattle.command_line.specs.FormatOptions.{text_of};
-ghost use Rattle.stack_commands.specs.messages.Services.{service_message};
+ghost use Rattle.stack_commands.specs.messages.Services.{faults_message, service_message};
 
-use nbd_server::ServiceFault;
+use nbd_server::{ServiceFault, Tally};
 
 /// Returns the sentence on a service that ends early, if there is one.
 #[tactic(auto, unfolding(crate::specs::messages::Services::service_message))]
@@ -20,5 +20,18 @@ pub fn service_message(fault: ServiceFault) -> Option<&'static str>
         ServiceFault::TooManyOptions => Some("the client sent more than 1,024 options"),
         ServiceFault::ReadFault => None,
         ServiceFault::WriteFault => None,
+    }
+}
+
+/// Returns the sentence on requests that ended with a fault.
+pub fn faults_message(tally: Tally) -> Option<&'static str>
+    ensures { text_of result ≡ Some (faults_message tally) }
+{
+    if tally.full < tally.faults {
+        Some(
+            "requests of the client failed: 'scan' on the same stack prints the sectors that can't be read",
+        )
+    } else {
+        Some("requests of the client failed: an image has no space left")
     }
 }

@@ -3,13 +3,14 @@ use Rattle.std.proofs.Common.{◌≡◌, ℕ, List, [], ◌∷◌, ◌++◌, Opt
 use Rattle.std.specs.Prelude.{is_some}
 use Rattle.dm_table.specs.declared.parity.Parity.{Parity}
 use Rattle.stack_rules.specs.Records.{Configuration}
+use Rattle.stack_meaning.specs.declared.fault.Fault.{Fault}
 use Rattle.stack_meaning.specs.declared.fault.IoFault.{IoFault}
 use Rattle.stack_meaning.specs.declared.fault.IoFault.TheVariants as io
 use Rattle.stack_meaning.specs.Outcomes.{mismatch}
 use Rattle.stack_rules.specs.Trees.{zero_block}
-use Rattle.stack_engine.specs.Healing.{HasNoParity, IsHealed, healed_result}
+use Rattle.stack_engine.specs.Healing.{HasNoParity, IsHealed, healed_result, unhealed}
 use Rattle.stack_engine.specs.LeafCalls.{LeafCall, AllLeafCallsSucceeded, NoneAfterFailure, EndAtFailure}
-use Rattle.stack_engine.specs.SectorCalls.{bytes_before, ReadOf, ReadCalls, WriteTo, WriteCalls, leaf_read, leaf_unread, none_read, line_read, line_unread, units_read, units_unread, part_read, part_unread, zeros_read, fails_read, chain_found, data_read, data_unread, data_full, blocks_read, block_checked, block_differs, block_unread, block_full, hash_kept, hash_full, hash_lost, hash_read, way_down, way_stops, way_full, one_ignored, one_read, next_ignored, next_checked, next_healed, next_differs, together_read, together_unread, blocks_end, blocks_next, blocks_full, leaf_written, leaf_unwritten, none_written, line_written, line_unwritten, units_written, each_written, part_written, part_lost, none_stepped, step_written, step_unwritten, zeros_written, fails_written, one_healed, spare_none, spare_full, spare_checked, spare_differs, spare_unread, sums_past, sums_added, sums_unread, parity_added, parity_unread}
+use Rattle.stack_engine.specs.SectorCalls.{bytes_before, ReadOf, ReadCalls, WriteTo, WriteCalls, leaf_read, leaf_unread, none_read, line_read, line_unread, units_read, units_unread, part_read, part_unread, zeros_read, fails_read, chain_found, data_read, data_unread, data_full, blocks_read, block_checked, block_differs, block_unread, block_full, hash_kept, hash_full, hash_read, way_had, way_healed, way_lost, way_down, way_stops, way_full, one_ignored, one_read, next_ignored, next_checked, next_healed, next_differs, together_read, together_unread, blocks_end, blocks_next, blocks_full, leaf_written, leaf_unwritten, none_written, line_written, line_unwritten, units_written, each_written, part_written, part_lost, none_stepped, step_written, step_unwritten, zeros_written, fails_written, one_healed, one_kept, one_fetched, spare_none, spare_full, spare_checked, spare_differs, spare_unread, sums_past, sums_added, sums_unread, parity_added, parity_unread}
 use Rattle.stack_engine.proofs.lemmas.NoParityLemmas.{HasNone, served-none}
 
 all-append : (calls later : List LeafCall) → AllLeafCallsSucceeded calls → AllLeafCallsSucceeded later → AllLeafCallsSucceeded (calls ++ later)
@@ -60,11 +61,13 @@ ends-before xs (Err io.NoMemory) calls later h k = all-append calls later h k
 clash : {parity : Option Parity} {q : Parity} {X : Type 0} → parity ≡ None → parity ≡ Some q → X
 clash none has = let other : None ≡ Some _ = sym none ∙ has in absurd cc
 
+ends-vain : (fault : Fault) (vain : IoFault) (calls : List LeafCall) → EndsAs (Err vain) calls → EndsAs (Err (unhealed (io.Stack fault) vain)) calls
+ends-vain fault (io.Stack vain) calls h = h
+ends-vain fault (io.Device i) calls h = h
+ends-vain fault io.NoMemory calls h = h
+
 ends-healed : (parity : Option Parity) (fault : IoFault) → parity ≡ None → IsHealed parity fault → (spare : Result (List ℕ) IoFault) (calls later : List LeafCall) → EndsAs (Err fault) calls → EndsAs spare later → EndsAs (healed_result fault spare) (calls ++ later)
-ends-healed parity (io.Stack fault) none heals (Ok x) calls later h k = all-append calls later h k
-ends-healed parity (io.Stack fault) none heals (Err (io.Stack vain)) calls later h k = all-append calls later h k
-ends-healed parity (io.Stack fault) none heals (Err (io.Device i)) calls later h k = end-append calls later h k
-ends-healed parity (io.Stack fault) none heals (Err io.NoMemory) calls later h k = all-append calls later h k
+ends-healed parity (io.Stack fault) none heals spare calls later h k = let both : false ≡ true = sym (ap is_some none) ∙ heals in absurd cc
 ends-healed parity (io.Device i) none heals spare calls later h k = let both : false ≡ true = sym (ap is_some none) ∙ heals in absurd cc
 ends-healed parity io.NoMemory none heals spare calls later h k = let both : false ≡ true = heals in absurd cc
 
@@ -91,18 +94,22 @@ reads-end none (block_unread a) plain = reads-end none a tt
 reads-end none (block_full x) plain = tt
 reads-end none (hash_kept x bytes is) plain = tt
 reads-end none (hash_full x) plain = tt
-reads-end none (hash_lost a) plain = reads-end none a tt
 reads-end none (hash_read a) plain = reads-end none a tt
-reads-end none (way_down {calls = calls} {later = later} {answer = answer} a b) plain = ends-append answer calls later (reads-end none a tt) (reads-end none b plain)
-reads-end none (way_stops last next a) plain = reads-end none a tt
+reads-end none (way_had settled a) plain = reads-end none a tt
+reads-end none (way_healed {p = p} {calls = calls} {later = later} {fault = fault} {spare = spare} heals a b) plain = ends-healed p.verity.parity fault plain heals spare calls later (reads-end none a tt) (reads-end none b plain)
+reads-end none (way_lost a) plain = reads-end none a plain
+reads-end none (way_down {calls = calls} {later = later} {answer = answer} a b) plain = ends-append answer calls later (reads-end none a plain) (reads-end none b plain)
+reads-end none (way_stops last next a) plain = reads-end none a plain
 reads-end none (way_full p l expected last next) plain = tt
 reads-end none (one_ignored p expected last is) plain = tt
 reads-end none (one_read last used settled a) plain = reads-end none a tt
 reads-end none (one_healed {p = p} last {calls = calls} {later = later} {fault = fault} {spare = spare} used heals a b) plain = ends-healed p.verity.parity fault plain heals spare calls later (reads-end none a tt) (reads-end none b plain)
+reads-end none (one_kept p last bytes used is) plain = tt
+reads-end none (one_fetched a) plain = reads-end none a plain
 reads-end none (next_ignored {p = p} last {calls = calls} {answer = answer} is a) plain = ends-before (zero_block p.verity) answer [] calls tt (reads-end none a plain)
 reads-end none (next_checked block last {calls = calls} {answer = answer} used is a) plain = ends-before block answer [] calls tt (reads-end none a plain)
 reads-end none (next_healed {spare = spare} block last {calls = calls} {later = later} {answer = answer} used len other a b) plain = ends-before spare answer calls later (reads-end none a plain) (reads-end none b plain)
-reads-end none (next_differs {p = p} left block ahead last {calls = calls} {vain = vain} used len other a) plain = ends-healed p.verity.parity (io.Stack mismatch) plain refl (Err vain) [] calls tt (reads-end none a plain)
+reads-end none (next_differs {p = p} left block ahead last {calls = calls} {vain = vain} used len other a) plain = ends-vain mismatch vain calls (reads-end none a plain)
 reads-end none (together_read {calls = calls} {later = later} {answer = answer} used row a b) plain = ends-append answer calls later (reads-end none a tt) (reads-end none b plain)
 reads-end none (together_unread used row a) plain = reads-end none a tt
 reads-end none (blocks_end p ahead) plain = tt

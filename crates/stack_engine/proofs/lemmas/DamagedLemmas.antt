@@ -1,91 +1,142 @@
--- A verity line with parity that has lost data blocks.
-use Rattle.std.proofs.Common.{◌≡◌, ◌≢◌, ◌⊎◌, ℕ, ◌+◌, ◌-◌, ◌*◌, ◌/◌, ◌<◌, ◌≤◌, Bool, true, false, cond, List, [], ◌++◌, get_or, Some, Ok, Err, inl, inr, refl, sym, ap, ◌∙◌, arith}
+-- A verity line with parity that has lost blocks.
+use Rattle.std.proofs.Common.{◌≡◌, ◌≢◌, ◌⊎◌, ℕ, zero, suc, ◌+◌, ◌-◌, ◌*◌, ◌/◌, ◌<◌, ◌≤◌, Bool, true, false, List, [], ◌++◌, length, get_or, map, Some, Ok, Err, inl, inr, refl, sym, ap, ◌∙◌, subst, arith}
 use Rattle.std.specs.Str.{bytes_eq}
-use Rattle.std.proofs.lemmas.Bool.{cases_Bool, cond-true, cond-false, lt-ltb}
+use Rattle.std.proofs.lemmas.Bool.{cases_Bool, cond-true, cond-false}
 use Rattle.std.proofs.lemmas.List.{append_cancel_left}
 use Rattle.std.proofs.lemmas.Slice.Eq.{bytes_eq-Decides}
-use Rattle.hash_tree.specs.Laws.{FormedChainsAreGood}
+use Rattle.hash_tree.specs.Chain.{HangsFrom, formed, path_to}
+use Rattle.hash_tree.specs.Laws.{AreBlocks, FormedChainsAreGood}
+use Rattle.hash_tree.specs.Tree.{root}
 use Rattle.tree_shape.specs.Digests.{digest}
+use Rattle.tree_shape.specs.Shape.{IsShape, ancestor, levels}
 use Rattle.dm_table.specs.declared.parity.Parity.{Parity}
 use Rattle.dm_table.specs.declared.verity.Verity.{Verity}
-use Rattle.stack_rules.specs.Trees.{block_sectors, zero_block}
+use Rattle.stack_rules.specs.Trees.{block_sectors, tree_of, zero_block}
 use Rattle.stack_config.proofs.lemmas.ParityLineLemmas.{parity-line}
-use Rattle.stack_meaning.specs.Blocks.{checked, checked_span, data_block_at, is_ignored}
-use Rattle.stack_meaning.specs.Outcomes.{Outcome, span}
-use Rattle.stack_meaning.specs.Spares.{BlockSources, covered_block, data_spare, healed_outcome, spare_block}
-use Rattle.stack_meaning.proofs.lemmas.CheckedLemmas.{checked-digest, then-parts}
+use Rattle.stack_meaning.specs.Blocks.{block_below, checked, checked_span, covered_hash, data_block_at, hash_block_at, hash_sectors, hash_start, is_ignored, next_digest, verified_block}
+use Rattle.stack_meaning.specs.Outcomes.{Outcome, span, then_outcome}
+use Rattle.stack_meaning.specs.Spares.{BlockSources, covered_block, covered_spare, healed_outcome, spare_block, verified_blocks}
+use Rattle.stack_meaning.proofs.lemmas.CheckedLemmas.{checked-digest, checked-same, then-parts}
+use Rattle.stack_meaning.proofs.lemmas.CoveredLemmas.{covered-data, covered-hash, hash-verified}
 use Rattle.stack_meaning.proofs.lemmas.SpareLemmas.{lost-restored}
-use Rattle.stack_engine.specs.DamagedData.{BlockCollides, DamagedDataIsRead, HasLostOne, line_sources}
+use Rattle.stack_engine.specs.DamagedData.{DamagedDataIsRead, HasLostOne, IsRestorable, LostCollides, line_sources, tree_block}
 use Rattle.stack_engine.specs.Laws.{IsSha256Collision}
-use Rattle.stack_engine.proofs.lemmas.FormattedLemmas.{block-low, data-shown, facts, line-is, line-walked, sector-shown, shown_block}
+use Rattle.stack_engine.proofs.lemmas.FormattedLemmas.{block-low, facts, length-path_to, line-is, sector-shown, shown_block}
 
 -- two blocks of one digest
 pub digest-collides : (v : Verity) (other block : List ℕ) → other ≢ block → digest v.salt other ≡ digest v.salt block → IsSha256Collision (v.salt ++ other) (v.salt ++ block)
 unfolding digest
 digest-collides v other block differ same = record { differ = λ e. differ (append_cancel_left v.salt other block e); same = same }
 
--- a block with its digest, or its spare, is the block itself, or collides with it
-own-healed : (v : Verity) (own spare : Outcome) (block : List ℕ) → ((b : List ℕ) → own ≡ Ok b → digest v.salt b ≡ digest v.salt block) → spare ≡ Ok block
-    → (healed_outcome own spare ≡ Ok block) ⊎ BlockCollides v block
-own-healed v (Ok b) spare block good is = go (bytes_eq b block) refl
-  where
-    go : (t : Bool) → bytes_eq b block ≡ t → (healed_outcome (Ok b) spare ≡ Ok block) ⊎ BlockCollides v block
-    go true e = inl (ap Ok ((bytes_eq-Decides b block).0 e))
-    go false e = inr (record {
-      other = b;
-      collision = digest-collides v b block (λ same. let clash : true ≡ false = sym ((bytes_eq-Decides b block).1 same) ∙ e in cc) (good b refl);
-    })
-own-healed v (Err fault) spare block good is = inl (ap (healed_outcome (Err fault)) is)
+module _ (v : Verity) (p : Parity) (has : v.parity ≡ Some p) (few : p.roots ≤ 24) (from : BlockSources) where
+  -- a block that is as it was, or the only lost one of its round
+  module _ (block : List ℕ) (j : ℕ) (covered : j < p.blocks) (at : ℕ → Outcome) (first n : ℕ) (read : span at first n ≡ covered_block v from j) where
+    abbrev expected : List ℕ
+    expected = digest v.salt block
 
-module _ (v : Verity) (p : Parity) (has : v.parity ≡ Some p) (few : p.roots ≤ 24) (from : BlockSources) (blocks : List (List ℕ)) (i : ℕ) (lost : HasLostOne v p from blocks i)
-    (inside : i < v.blocks) (covered : i < p.blocks) where
-  abbrev block : List ℕ
-  block = get_or blocks i []
+    abbrev own : Outcome
+    own = checked_span at first n v.salt expected
 
-  abbrev expected : List ℕ
-  expected = digest v.salt block
+    abbrev spare : Outcome
+    spare = covered_spare v from v.parity j expected
 
-  abbrev own : Outcome
-  own = checked_span from.on_data (block_sectors v * i) (block_sectors v) v.salt expected
+    own-kept : covered_block v from j ≡ Ok block → own ≡ Ok block
+    own-kept kept = ap (λ (x : Outcome). then_outcome x (checked v.salt expected)) (read ∙ kept) ∙ checked-same v.salt expected block refl
 
-  own-good : (b : List ℕ) → own ≡ Ok b → digest v.salt b ≡ expected
-  own-good b e =
-      let read = then-parts (span from.on_data (block_sectors v * i) (block_sectors v)) (checked v.salt expected) b e in
-      checked-digest v.salt expected read.0 b read.2
+    own-good : (b : List ℕ) → own ≡ Ok b → digest v.salt b ≡ expected
+    own-good b e = let parts = then-parts (span at first n) (checked v.salt expected) b e in checked-digest v.salt expected parts.0 b parts.2
 
-  -- the block as it is read, where it is as it was
-  read-former : covered_block v from i ≡ Ok (lost.former i) → span from.on_data (block_sectors v * i) (block_sectors v) ≡ Ok block
-  read-former is =
-      let at : Bool → Outcome = λ b. span (cond b from.on_data from.on_hash) (cond b (block_sectors v * i) (block_sectors v * (v.start + (i - v.blocks)))) (block_sectors v) in
-      sym (ap at (lt-ltb i v.blocks inside)) ∙ is ∙ ap Ok lost.own
+    spare-is : IsRestorable v p from block j → spare ≡ Ok block
+    spare-is lost =
+        ap (λ o. covered_spare v from o j expected) has
+        ∙ ap (λ (b : List ℕ). spare_block v p from j (digest v.salt b)) (sym lost.own)
+        ∙ lost-restored v p few from lost.former lost.parity j covered lost.round lost.whole
+        ∙ ap Ok lost.own
 
-  pub data-damaged : (data_block_at v from i expected ≡ Ok (shown_block v block)) ⊎ BlockCollides v block
-  data-damaged = elim lost.one [
-    | inl whole ↦ inl (data-shown v from i expected block (read-former whole) refl)
-    | inr beside ↦
-        let restored = lost-restored v p few from lost.former lost.parity i covered lost.round beside in
-        let spare : data_spare v from v.parity i expected ≡ Ok block =
-        ap (λ o. data_spare v from o i expected) has
-        ∙ ap (λ (b : List ℕ). spare_block v p from i (digest v.salt b)) (sym lost.own)
-        ∙ restored ∙ ap Ok lost.own in
-        elim (cases_Bool (is_ignored v expected)) [
-          | inl zeros ↦ inl (cond-true _ _ _ zeros ∙ ap Ok (sym (cond-true (is_ignored v expected) (zero_block v) block zeros)))
-          | inr other ↦ elim (own-healed v own (data_spare v from v.parity i expected) block own-good spare) [
-            | inl same ↦ inl (cond-false _ _ _ other ∙ same ∙ ap Ok (sym (cond-false (is_ignored v expected) (zero_block v) block other)))
+    -- it has its bytes, or collides with others
+    healed-own : (o : Outcome) → own ≡ o → spare ≡ Ok block → (healed_outcome o spare ≡ Ok block) ⊎ LostCollides v from block j
+    healed-own (Ok b) is restored = go (bytes_eq b block) refl
+      where
+        go : (t : Bool) → bytes_eq b block ≡ t → (healed_outcome (Ok b) spare ≡ Ok block) ⊎ LostCollides v from block j
+        go true e = inl (ap Ok ((bytes_eq-Decides b block).0 e))
+        go false e =
+            let differ : b ≢ block = λ same. let clash : true ≡ false = sym ((bytes_eq-Decides b block).1 same) ∙ e in cc in
+            inr (record {
+              lost = λ kept. let both : Ok b ≡ Ok block = sym is ∙ own-kept kept in differ cc;
+              collides = record { other = b; collision = digest-collides v b block differ (own-good b is) };
+            })
+    healed-own (Err fault) is restored = inl (ap (healed_outcome (Err fault)) restored)
+
+    block-damaged : HasLostOne v p from block j → (healed_outcome own spare ≡ Ok block) ⊎ LostCollides v from block j
+    block-damaged lost = elim lost [
+      | inl kept ↦ inl (ap (λ (x : Outcome). healed_outcome x spare) (own-kept kept))
+      | inr restorable ↦ healed-own own refl (spare-is restorable)
+    ]
+
+  -- a data block, as the line shows it
+  data-damaged : (block : List ℕ) (i : ℕ) → i < v.blocks → i < p.blocks → HasLostOne v p from block i → (data_block_at v from i (digest v.salt block) ≡ Ok (shown_block v block)) ⊎ LostCollides v from block i
+  data-damaged block i inside covered lost = elim (cases_Bool (is_ignored v (digest v.salt block))) [
+    | inl zeros ↦ inl (cond-true _ _ _ zeros ∙ ap Ok (sym (cond-true (is_ignored v (digest v.salt block)) (zero_block v) block zeros)))
+    | inr other ↦ elim (block-damaged block i covered from.on_data (block_sectors v * i) (block_sectors v) (covered-data v from i inside) lost) [
+      | inl same ↦ inl (cond-false _ _ _ other ∙ same ∙ ap Ok (sym (cond-false (is_ignored v (digest v.salt block)) (zero_block v) block other)))
+      | inr collides ↦ inr collides
+    ]
+  ]
+
+  -- the path to data block i, whose hash blocks are so
+  module _ (shape : IsShape (tree_of v)) (size : v.data_block ≡ v.hash_block) (covers : verified_blocks v ≤ p.blocks) (blocks : List (List ℕ)) (i : ℕ) (inside : i < v.blocks) where
+    abbrev number : ℕ → ℕ
+    number l = covered_hash v l (ancestor (tree_of v) (l + 1) i)
+
+    abbrev AreOnPath : Type 0
+    AreOnPath = (l : ℕ) → l < levels (tree_of v) → HasLostOne v p from (tree_block v blocks l i) (number l)
+
+    abbrev SomeCollides : Type 0
+    SomeCollides = (l : ℕ) × (l < levels (tree_of v)) × LostCollides v from (tree_block v blocks l i) (number l)
+
+    hash-damaged : AreOnPath → (l : ℕ) → l < levels (tree_of v) → (hash_block_at v from l (ancestor (tree_of v) (l + 1) i) (digest v.salt (tree_block v blocks l i)) ≡ Ok (tree_block v blocks l i)) ⊎ LostCollides v from (tree_block v blocks l i) (number l)
+    hash-damaged path l low =
+        block-damaged (tree_block v blocks l i) (number l) (omega (arith, hash-verified v shape l i low inside, covers)) from.on_hash (hash_start v l i) (hash_sectors v) (covered-hash v from l (ancestor (tree_of v) (l + 1) i) size) (path l low)
+
+    walk-damaged : AreOnPath → (l : ℕ) → l ≤ levels (tree_of v) → (expected : List ℕ) → HangsFrom (tree_of v) v.salt i expected (path_to (tree_of v) v.salt (map (digest v.salt) blocks) l i) (get_or blocks i [])
+        → (block_below v from i l expected ≡ data_block_at v from i (digest v.salt (get_or blocks i []))) ⊎ SomeCollides
+    walk-damaged path zero low expected hangs = inl (ap (data_block_at v from i) (sym hangs.1))
+    walk-damaged path (suc l) low expected hangs =
+        let ds : List (List ℕ) = map (digest v.salt) blocks in
+        let block : List ℕ = tree_block v blocks l i in
+        let next : List ℕ → Outcome = λ b. block_below v from i l (next_digest v l i b) in
+        let at : next_digest v (length (path_to (tree_of v) v.salt ds l i)) i block ≡ next_digest v l i block = ap (λ (k : ℕ). next_digest v k i block) (length-path_to (tree_of v) v.salt ds l i) in
+        elim (hash-damaged path l (omega (arith, low))) [
+          | inl same ↦ elim (walk-damaged path l (omega (arith, low)) (next_digest v l i block) (subst (λ (e : List ℕ). HangsFrom (tree_of v) v.salt i e (path_to (tree_of v) v.salt ds l i) (get_or blocks i [])) at hangs.2)) [
+            | inl rest ↦
+                inl (ap (λ (e : List ℕ). then_outcome (hash_block_at v from l (ancestor (tree_of v) (l + 1) i) e) next) (sym hangs.1) ∙ ap (λ (x : Outcome). then_outcome x next) same ∙ rest)
             | inr collides ↦ inr collides
           ]
+          | inr collides ↦ inr (l, omega (arith, low), collides)
         ]
-  ]
+
+    block-walked : FormedChainsAreGood → AreBlocks v.blocks v.data_block blocks → v.root ≡ root v.hash_block v.salt (map (digest v.salt) blocks) → AreOnPath
+        → (verified_block v from i ≡ data_block_at v from i (digest v.salt (get_or blocks i []))) ⊎ SomeCollides
+    unfolding formed
+    block-walked law even is path =
+        let good = law (tree_of v) shape v.salt blocks even i inside in
+        elim (walk-damaged path (levels (tree_of v)) (omega arith) (root v.hash_block v.salt (map (digest v.salt) blocks)) good.hangs) [
+          | inl same ↦ inl (ap (block_below v from i (levels (tree_of v))) is ∙ same)
+          | inr collides ↦ inr collides
+        ]
 
 pub damaged-read : FormedChainsAreGood → DamagedDataIsRead
 damaged-read law c loaded images whole d s l line v lies p blocks damaged =
     let i : ℕ = (s - line.start) / block_sectors v in
+    let from = line_sources c images v in
     let low = block-low c loaded images whole d s l line v lies in
     let line_facts = facts c loaded images whole d s l line v lies in
     let parity = parity-line c d l line v p loaded (line-is c loaded images whole d s l line v lies) lies.has damaged.has line_facts.1 line_facts.2.hash_named in
-    let covered : i < p.blocks = omega (arith, low, parity.1.covers) in
-    elim (data-damaged v p damaged.has parity.1.grammar.most_roots (line_sources c images v) blocks i damaged.lost low covered) [
-      | inl shown ↦
-          inl (sector-shown c loaded images whole d s l line v lies blocks damaged.tree.sized (line-walked c loaded images whole d s l line v lies law blocks damaged.tree ∙ shown))
-      | inr collides ↦ inr collides
+    let few = parity.1.grammar.most_roots in
+    elim (block-walked v p damaged.has few from line_facts.2.shape parity.1.one_size parity.1.covers blocks i low law damaged.sized damaged.root_is damaged.path) [
+      | inl walked ↦ elim (data-damaged v p damaged.has few from (get_or blocks i []) i low (omega (arith, low, parity.1.covers)) damaged.block) [
+        | inl shown ↦ inl (sector-shown c loaded images whole d s l line v lies blocks damaged.sized (walked ∙ shown))
+        | inr collides ↦ inr (inl collides)
+      ]
+      | inr collides ↦ inr (inr collides)
     ]

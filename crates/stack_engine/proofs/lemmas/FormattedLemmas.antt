@@ -31,12 +31,12 @@ use Rattle.stack_config.proofs.lemmas.VerityLineLemmas.{IsVerityLine, verity-lin
 use Rattle.stack_engine.specs.DamagedData.{IsTreeOnHash, line_sources}
 use Rattle.stack_engine.specs.Laws.{FormattedDataIsRead, LiesInVerity, formatted_sector, named_sector}
 use Rattle.stack_meaning.specs.Meaning.{Said, line_said, said_by_name, sector}
-use Rattle.stack_meaning.specs.Spares.{BlockSources, data_spare, healed_outcome}
+use Rattle.stack_meaning.specs.Spares.{BlockSources, covered_spare, healed_outcome}
 use Rattle.stack_meaning.proofs.lemmas.BlockSizeLemmas.{IsWholeSectors, whole-sectors}
 use Rattle.stack_meaning.proofs.lemmas.EachLineLemmas.{line_at-is, line_at-end}
 use Rattle.stack_meaning.proofs.lemmas.LineLemmas.{line-start}
 use Rattle.stack_meaning.proofs.lemmas.SectorLemmas.{said_at-line}
-use Rattle.stack_meaning.specs.Blocks.{hash_sectors, hash_start, next_digest, checked, is_ignored, data_block_at, block_below, verified_block}
+use Rattle.stack_meaning.specs.Blocks.{covered_hash, hash_sectors, hash_start, next_digest, checked, is_ignored, data_block_at, block_below, verified_block}
 use Rattle.stack_meaning.specs.Outcomes.{AreWhole, Images, Outcome, span, then_outcome, part, zero_sector}
 use Rattle.stack_lines.proofs.lemmas.SizeLemmas.{named-size}
 use Rattle.stack_meaning.proofs.lemmas.SizedLemmas.{AreSized, span-part}
@@ -87,7 +87,7 @@ data-shown v from i expected block read good = elim (cases_Bool (is_ignored v ex
   | inl zeros ↦ cond-true _ _ _ zeros ∙ ap Ok (sym (cond-true (is_ignored v (digest v.salt block)) (zero_block v) block (ap (is_ignored v) good ∙ zeros)))
   | inr other ↦
       cond-false _ _ _ other
-      ∙ ap (λ (x : Outcome). healed_outcome x (data_spare v from v.parity i expected)) (ap (λ (x : Outcome). then_outcome x (checked v.salt expected)) read ∙ checked-same v.salt expected block good)
+      ∙ ap (λ (x : Outcome). healed_outcome x (covered_spare v from v.parity i expected)) (ap (λ (x : Outcome). then_outcome x (checked v.salt expected)) read ∙ checked-same v.salt expected block good)
       ∙ ap Ok (sym (cond-false (is_ignored v (digest v.salt block)) (zero_block v) block (ap (is_ignored v) good ∙ other)))
 ]
 
@@ -114,7 +114,7 @@ shown-part v blocks w whole sized some low =
 
 -- ---- the walk over formatted devices
 
-length-path_to : (s : ShapeRecord) (salt : List ℕ) (ds : List (List ℕ)) (n i : ℕ) → length (path_to s salt ds n i) ≡ n
+pub length-path_to : (s : ShapeRecord) (salt : List ℕ) (ds : List (List ℕ)) (n i : ℕ) → length (path_to s salt ds n i) ≡ n
 length-path_to s salt ds zero i = refl
 length-path_to s salt ds (suc l) i = ap suc (length-path_to s salt ds l i)
 
@@ -151,7 +151,7 @@ module _ (v : Verity) (from : BlockSources) (hash_sized : AreSized from.on_hash)
   })
 
   -- the hash device reads each block of the tree on the way to a data block
-  reads-hash : (l i : ℕ) → l < levels (tree_of v) → i < v.blocks
+  pub reads-hash : (l i : ℕ) → l < levels (tree_of v) → i < v.blocks
       → span from.on_hash (hash_start v l i) (hash_sectors v) ≡ Ok (get_or (level v.hash_block v.salt (map (digest v.salt) blocks) l) (ancestor (tree_of v) (l + 1) i) [])
   reads-hash l i low inside =
       let a : ℕ = ancestor (tree_of v) (l + 1) i in
@@ -176,8 +176,9 @@ module _ (v : Verity) (from : BlockSources) (hash_sized : AreSized from.on_hash)
       let ds : List (List ℕ) = map (digest v.salt) blocks in
       let block : List ℕ = get_or (level v.hash_block v.salt ds l) (ancestor (tree_of v) (l + 1) i) [] in
       let at : next_digest v (length (path_to (tree_of v) v.salt ds l i)) i block ≡ next_digest v l i block = ap (λ (k : ℕ). next_digest v k i block) (length-path_to (tree_of v) v.salt ds l i) in
-      ap (λ (x : Outcome). then_outcome (then_outcome x (checked v.salt expected)) (λ b. block_below v from i l (next_digest v l i b))) (reads-hash l i (omega (arith, low)) inside)
-      ∙ ap (λ (x : Outcome). then_outcome x (λ b. block_below v from i l (next_digest v l i b))) (checked-same v.salt expected block hangs.1)
+      let spare : Outcome = covered_spare v from v.parity (covered_hash v l (ancestor (tree_of v) (l + 1) i)) expected in
+      ap (λ (x : Outcome). then_outcome (healed_outcome (then_outcome x (checked v.salt expected)) spare) (λ b. block_below v from i l (next_digest v l i b))) (reads-hash l i (omega (arith, low)) inside)
+      ∙ ap (λ (x : Outcome). then_outcome (healed_outcome x spare) (λ b. block_below v from i l (next_digest v l i b))) (checked-same v.salt expected block hangs.1)
       ∙ walk-formatted i inside l (omega (arith, low)) (next_digest v l i block)
       (subst (λ (e : List ℕ). HangsFrom (tree_of v) v.salt i e (path_to (tree_of v) v.salt ds l i) (get_or blocks i [])) at hangs.2)
 

@@ -1,4 +1,4 @@
--- A data block's spare: the sum of the other blocks of its round, one after another, and of their parity.
+-- A block's spare: the sum of the other blocks of its round, one after another, and of their parity.
 use Rattle.std.proofs.Common.{◌≡◌, ℕ, zero, suc, ◌+◌, ◌-◌, ◌*◌, ◌/◌, ◌%◌, ◌<◌, ◌≤◌, Bool, cond, nat_eq, List, [], ◌∷◌, length, Option, Some, None, Ok, Err, refl, sym, ap, ◌∙◌, arith, inl, inr}
 use Rattle.std.proofs.lemmas.Bool.{cases_Bool, cases_lt}
 use Rattle.std.proofs.lemmas.Bool.Decides.{eqb_tells}
@@ -15,7 +15,7 @@ use Rattle.stack_meaning.specs.Blocks.{checked}
 use Rattle.stack_meaning.specs.Leaves.{steady_images, AreRead}
 use Rattle.stack_meaning.specs.Outcomes.{Images, Outcome, mismatch, then_outcome}
 use Rattle.stack_meaning.specs.Reading.{Gets, IsCertain}
-use Rattle.stack_meaning.specs.Spares.{added_block, data_spare, restored_block, round_block, round_parity, summed_blocks, with_parity}
+use Rattle.stack_meaning.specs.Spares.{added_block, covered_spare, restored_block, round_block, round_parity, summed_blocks, with_parity}
 use Rattle.stack_meaning.proofs.lemmas.CheckedLemmas.{checked-same}
 use Rattle.stack_engine.proofs.HealLemmas.{checked-other}
 use Rattle.stack_meaning.proofs.lemmas.LeafListLemmas.{AreRead-none, AreRead-then, AreRead-more, images-kept}
@@ -77,12 +77,12 @@ module _ (b : DataBlock) (q : Parity) (has : b.verity.parity ≡ Some q) (some :
   stored-units : block_sectors b.verity * q.roots * sector_cost b ≡ q.roots * unit
   stored-units = ap (λ (k : ℕ). k * sector_cost b) (mul_comm (block_sectors b.verity) q.roots) ∙ mul_assoc q.roots (block_sectors b.verity) (sector_cost b)
 
-  spare-is : (images : Images) (expected : List ℕ) → data_spare b.verity (sources_of b images) b.verity.parity b.index expected ≡ then_outcome (restored_block b.verity q (sources_of b images) b.index) (checked b.verity.salt expected)
-  spare-is images expected = ap (λ (o : Option Parity). data_spare b.verity (sources_of b images) o b.index expected) has
+  spare-is : (images : Images) (expected : List ℕ) → covered_spare b.verity (sources_of b images) b.verity.parity b.index expected ≡ then_outcome (restored_block b.verity q (sources_of b images) b.index) (checked b.verity.salt expected)
+  spare-is images expected = ap (λ (o : Option Parity). covered_spare b.verity (sources_of b images) o b.index expected) has
 
   -- by what was summed
   spare-summed : (images : Images) (expected : List ℕ) (x : Outcome) → summed_blocks (zero_block b.verity) (at_images images) (255 - q.roots) ≡ x
-      → data_spare b.verity (sources_of b images) b.verity.parity b.index expected
+      → covered_spare b.verity (sources_of b images) b.verity.parity b.index expected
       ≡ then_outcome (then_outcome x (λ sums. then_outcome (round_parity b.verity q (sources_of b images) (b.index % round_count q)) (λ parity. Ok (with_parity q.roots sums parity)))) (checked b.verity.salt expected)
   spare-summed images expected x is =
       spare-is images expected
@@ -156,7 +156,7 @@ module _ (b : DataBlock) (q : Parity) (has : b.verity.parity ≡ Some q) (some :
         let most = unit-cost (p.count + q.roots) (omega (arith, skipped, all, few)) in
         omega (arith, more, most, stored-units)
 
-    end-exact : IsCertain (spare_expected (λ (x : List ℕ). x) b expected) old → (x : Outcome) → (stored_wanted b q sums).means (steady_images mid) ≡ x → data_spare b.verity (sources_of b (steady_images old)) b.verity.parity b.index expected ≡ then_outcome x (checked b.verity.salt expected)
+    end-exact : IsCertain (spare_expected (λ (x : List ℕ). x) b expected) old → (x : Outcome) → (stored_wanted b q sums).means (steady_images mid) ≡ x → covered_spare b.verity (sources_of b (steady_images old)) b.verity.parity b.index expected ≡ then_outcome x (checked b.verity.salt expected)
     end-exact sure x is =
         let images : steady_images mid ≡ steady_images old = images-kept p.moved in
         spare-summed (steady_images old) expected (Ok sums) (ap (λ (k : ℕ). summed_blocks (zero_block b.verity) (at_images (steady_images old)) k) (sym all) ∙ p.exact (spare-sure expected sure))
@@ -190,5 +190,5 @@ pub spare-none : (b : DataBlock) (expected : List ℕ) (leaves : List Device) �
 spare-none b expected leaves none = record {
   moved = AreRead-none _ leaves;
   may = tt;
-  exact = λ sure. ap (λ (o : Option Parity). data_spare b.verity (sources_of b (steady_images leaves)) o b.index expected) none;
+  exact = λ sure. ap (λ (o : Option Parity). covered_spare b.verity (sources_of b (steady_images leaves)) o b.index expected) none;
 }

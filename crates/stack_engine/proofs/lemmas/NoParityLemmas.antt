@@ -7,7 +7,7 @@ use Rattle.stack_lines.specs.declared.source.Source.{Source}
 use Rattle.stack_lines.specs.declared.source.Source.TheVariants.{Below, Units, UnitPart, Zeros, Fails, Block, Blocks}
 use Rattle.stack_lines.specs.Sources.{ComeFrom, IsServed}
 use Rattle.stack_engine.specs.Healing.{HasNoParity}
-use Rattle.stack_engine.specs.SectorCalls.{block_of, blocks_of, data_of, hash_of, sectors_of, spare_of, sums_of, ReadOf}
+use Rattle.stack_engine.specs.SectorCalls.{block_of, blocks_of, data_of, hash_of, sectors_of, spare_of, sums_of, way_of, ReadOf}
 
 -- the line of a part has none
 abbrev pub SourceHasNone : Source → Type 0
@@ -23,6 +23,7 @@ abbrev pub HasNone : ReadOf → Type 0
 HasNone (sectors_of source n) = SourceHasNone source
 HasNone (block_of x) = Unit {0}
 HasNone (hash_of x) = Unit {0}
+HasNone (way_of p l expected) = p.verity.parity ≡ None
 HasNone (data_of p l expected last next) = p.verity.parity ≡ None
 HasNone (blocks_of p left ahead) = p.verity.parity ≡ None
 HasNone (spare_of p expected) = p.verity.parity ≡ None

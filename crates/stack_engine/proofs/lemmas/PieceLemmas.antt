@@ -1,5 +1,5 @@
 -- One piece as callers see it, and pieces one after another.
-use Rattle.std.proofs.Common.{◌≡◌, ℕ, ◌+◌, ◌≤◌, List, [], ◌++◌, Result, Ok, Err, refl, ap, ◌∙◌, arith}
+use Rattle.std.proofs.Common.{◌≡◌, ℕ, ◌+◌, ◌≤◌, List, [], ◌++◌, Option, Result, Ok, Err, refl, ap, ◌∙◌, arith}
 use Rattle.std.proofs.lemmas.List.Elements.{Contains-append_left, Contains-append_right, All-nil}
 use Rattle.block_device.specs.Device.{Device}
 use Rattle.stack_rules.specs.declared.lower.Lower.{Lower}
@@ -13,7 +13,8 @@ use Rattle.stack_meaning.specs.Leaves.{AreRead}
 use Rattle.stack_meaning.specs.Places.{place_of, Expected, run_expected}
 use Rattle.stack_meaning.specs.Reading.{Gets, MeetVerity, Reads}
 use Rattle.stack_engine.specs.Stacks.{StackRecord, AnswerRecord, IsSound}
-use Rattle.verified_cache.specs.Cache.{CachedBlock, CacheRecord}
+use Rattle.stack_lines.specs.Caches.{Capacity, StackCache, capacity_of}
+use Rattle.verified_cache.specs.Cache.{CachedBlock}
 use Rattle.stack_lines.specs.Touches.{AsksOnly, leaves_of}
 use Rattle.stack_lines.proofs.lemmas.AskLemmas.{asks-touched}
 use Rattle.stack_engine.specs.Healing.{HasNoParity}
@@ -23,12 +24,13 @@ use Rattle.stack_meaning.proofs.lemmas.FoundLemmas.{HasMore, used-append, said_a
 use Rattle.stack_meaning.proofs.lemmas.RunLemmas.{fault_passes, fill_ok, fill_err, fill_more}
 
 -- stacks with the same parts
-pub same-stack : (v w : StackRecord) → v.config ≡ w.config → v.leaves ≡ w.leaves → v.capacity ≡ w.capacity → v.kept ≡ w.kept → v.restored ≡ w.restored → v ≡ w
+pub same-stack : (v w : StackRecord) → v.config ≡ w.config → v.leaves ≡ w.leaves → v.capacity ≡ w.capacity → (v.kept ≡ w.kept) × (v.last ≡ w.last) → v.restored ≡ w.restored → v ≡ w
 same-stack v w config leaves capacity kept restored =
     ap (λ (c : Configuration). record v { config = c }) config
     ∙ ap (λ (l : List Device). record v { config = w.config; leaves = l }) leaves
-    ∙ ap (λ (n : ℕ). record v { config = w.config; leaves = w.leaves; capacity = n }) capacity
-    ∙ ap (λ (b : List CachedBlock). record v { config = w.config; leaves = w.leaves; capacity = w.capacity; kept = b }) kept
+    ∙ ap (λ (k : Capacity). record v { config = w.config; leaves = w.leaves; capacity = k }) capacity
+    ∙ ap (λ (b : List CachedBlock). record v { config = w.config; leaves = w.leaves; capacity = w.capacity; kept = b }) kept.0
+    ∙ ap (λ (b : Option CachedBlock). record v { config = w.config; leaves = w.leaves; capacity = w.capacity; kept = w.kept; last = b }) kept.1
     ∙ ap (λ (n : ℕ). record w { restored = n }) restored
 
 pub piece-sound : (c : Configuration) {old new : List Device} {n : ℕ} → IsSound c old → AreRead old n new → IsSound c new
@@ -113,8 +115,8 @@ no-pieces c lower first leaves = record {
 
 -- a piece as the stack's own record
 pub each-piece : (c : Configuration) (d first n : ℕ) {old new : List Device} (answer : Result AnswerRecord IoFault) → Gets (piece_expected c (mapped d) first n) old new answer → AsksOnly (MeetVerity (said_at c (mapped d)) first n → HasNoParity c) (leaves_of c (mapped d)) old new answer
-    → {before after : CacheRecord} {was is : ℕ} → after.capacity ≡ before.capacity → EachPiece (stack_with c old before was) d first n answer (stack_with c new after is)
-each-piece c d first n answer p asks {before = before} {after = after} {was = was} {is = is} capacity =
+    → (before after : StackCache) {was is : ℕ} → capacity_of after ≡ capacity_of before → EachPiece (stack_with c old before was) d first n answer (stack_with c new after is)
+each-piece c d first n answer p asks before after {was = was} {is = is} capacity =
     let any : AnyPiece (stack_with c _ before was) d first n answer (stack_with c _ after is) = record { config = refl; capacity = capacity; moved = p.moved; may = p.may; touches = asks-touched asks; fails = asks.ends } in
     record { any = any; steady = λ sure. record { any = any; exact = p.exact (record { steady = sure.steady; agrees = sure.agrees }) } }
 

@@ -5,7 +5,7 @@ use Rattle.stack_rules.specs.Records.{Configuration}
 use Rattle.stack_meaning.specs.declared.fault.IoFault.{IoFault}
 use Rattle.stack_engine.specs.LeafCalls.{LeafCall}
 use Rattle.stack_engine.specs.Restored.{one_more, restored_after}
-use Rattle.stack_engine.specs.SectorCalls.{ReadOf, ReadCalls, leaf_read, leaf_unread, none_read, line_read, line_unread, units_read, units_unread, part_read, part_unread, zeros_read, fails_read, chain_found, data_read, data_unread, data_full, blocks_read, block_checked, block_differs, block_unread, block_full, hash_kept, hash_full, hash_lost, hash_read, way_down, way_stops, way_full, one_ignored, one_read, one_healed, next_ignored, next_checked, next_healed, next_differs, together_read, together_unread, blocks_end, blocks_next, blocks_full, spare_none, spare_full, spare_checked, spare_differs, spare_unread, sums_past, sums_added, sums_unread, parity_added, parity_unread}
+use Rattle.stack_engine.specs.SectorCalls.{ReadOf, ReadCalls, leaf_read, leaf_unread, none_read, line_read, line_unread, units_read, units_unread, part_read, part_unread, zeros_read, fails_read, chain_found, data_read, data_unread, data_full, blocks_read, block_checked, block_differs, block_unread, block_full, hash_kept, hash_full, hash_read, way_had, way_healed, way_lost, way_down, way_stops, way_full, one_ignored, one_read, one_healed, one_kept, one_fetched, next_ignored, next_checked, next_healed, next_differs, together_read, together_unread, blocks_end, blocks_next, blocks_full, spare_none, spare_full, spare_checked, spare_differs, spare_unread, sums_past, sums_added, sums_unread, parity_added, parity_unread}
 
 -- it doesn't fall
 one-grows : (n : ℕ) → n ≤ one_more n
@@ -43,14 +43,18 @@ reads-grow (block_unread a) = reads-grow a
 reads-grow (block_full x) = omega arith
 reads-grow (hash_kept x bytes is) = omega arith
 reads-grow (hash_full x) = omega arith
-reads-grow (hash_lost a) = reads-grow a
 reads-grow (hash_read a) = reads-grow a
+reads-grow (way_had settled a) = reads-grow a
+reads-grow (way_healed {to = to} {spare = spare} heals a b) = omega (arith, reads-grow a, reads-grow b, spare-grows spare to)
+reads-grow (way_lost a) = reads-grow a
 reads-grow (way_down a b) = omega (arith, reads-grow a, reads-grow b)
 reads-grow (way_stops last next a) = reads-grow a
 reads-grow (way_full p l expected last next) = omega arith
 reads-grow (one_ignored p expected last is) = omega arith
 reads-grow (one_read last used settled a) = reads-grow a
 reads-grow (one_healed {to = to} last {spare = spare} used heals a b) = omega (arith, reads-grow a, reads-grow b, spare-grows spare to)
+reads-grow (one_kept p last bytes used is) = omega arith
+reads-grow (one_fetched a) = reads-grow a
 reads-grow (next_ignored last is a) = reads-grow a
 reads-grow (next_checked block last used is a) = reads-grow a
 reads-grow (next_healed {mid = mid} block last used len other a b) = omega (arith, reads-grow a, reads-grow b, one-grows mid)

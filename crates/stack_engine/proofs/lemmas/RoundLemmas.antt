@@ -19,7 +19,7 @@ use Rattle.stack_meaning.specs.Leaves.{steady_images}
 use Rattle.stack_meaning.specs.Outcomes.{Images, Outcome, span, then_outcome}
 use Rattle.stack_meaning.specs.Places.{Place, place_of, run_expected}
 use Rattle.stack_meaning.specs.Reading.{Gets}
-use Rattle.stack_meaning.specs.Spares.{added_block, covered_block, covered_start, parity_start, place_number, round_block, with_parity}
+use Rattle.stack_meaning.specs.Spares.{added_block, covered_block, covered_start, parity_start, place_number, round_block, verified_blocks, with_parity}
 use Rattle.stack_meaning.proofs.lemmas.LeafListLemmas.{AreRead-none, AreRead-more}
 use Rattle.stack_meaning.proofs.lemmas.RunLemmas.{certain-for, fault_passes}
 use Rattle.stack_lines.specs.declared.tree.Extent.{Extent}
@@ -36,7 +36,7 @@ use Rattle.stack_engine.specs.Spares.{IsStoredAt, other_wanted, sector_cost, sto
 use Rattle.stack_engine.specs.declared.spare.Stored.{Stored}
 use Rattle.stack_engine.proofs.SumLemmas.{added-zeros}
 
--- ---- a data block of a line with parity
+-- ---- a block of a line with parity
 
 -- what is added is another block of a round of parity
 pub other-given : (p : DataPlace) (o : Option Parity) (i : ℕ) (e : Extent) → other_by p o i ≡ Some e → (q : Parity) × (o ≡ Some q) × (other_at p q i ≡ Some e)
@@ -76,7 +76,7 @@ pub record IsRound (q : Parity) (index : ℕ) : Type 0 where
   pub few : q.roots ≤ 24
   pub low : index / round_count q < 255 - q.roots
 
-pub is-round : (c : Configuration) (v : Verity) (tree : Tree) (loaded : IsLoaded c) → IsTreeOf c v tree → (index : ℕ) → index < v.blocks → (q : Parity) → v.parity ≡ Some q → IsRound q index
+pub is-round : (c : Configuration) (v : Verity) (tree : Tree) (loaded : IsLoaded c) → IsTreeOf c v tree → (index : ℕ) → index < verified_blocks v → (q : Parity) → v.parity ≡ Some q → IsRound q index
 is-round c v tree loaded is index there q has =
     let line = (parity-there c v q tree loaded (record { lies = is; has = has })).2 in
     record {

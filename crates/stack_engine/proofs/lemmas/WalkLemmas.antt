@@ -3,10 +3,10 @@ use Rattle.std.proofs.Common.{◌≡◌, ℕ, suc, ◌+◌, ◌*◌, ◌<◌, �
 use Rattle.std.proofs.lemmas.Bool.{and_parts, cond-true, cond-false}
 use Rattle.std.proofs.lemmas.Slice.Eq.{bytes_eq-Decides}
 use Rattle.std.proofs.lemmas.List.{append_assoc, append-nil, length-append, length-replicate}
-use Rattle.std.proofs.Math.Nat.{mul-le-mul_right, mul_assoc}
+use Rattle.std.proofs.Math.Nat.{add-mul, mul-add, mul-le-mul_right, mul_assoc}
 use Rattle.hash_tree.specs.Chain.{HangsFrom}
 use Rattle.tree_shape.specs.Digests.{digest}
-use Rattle.tree_shape.specs.Shape.{levels}
+use Rattle.tree_shape.specs.Shape.{ancestor, levels}
 use Rattle.block_device.specs.Device.{Device}
 use Rattle.dm_table.specs.declared.verity.Verity.{Verity}
 use Rattle.stack_rules.specs.Trees.{tree_of, block_sectors, zero_block}
@@ -15,19 +15,19 @@ use Rattle.stack_meaning.specs.declared.fault.IoFault.{IoFault}
 use Rattle.stack_meaning.specs.declared.fault.IoFault.TheVariants as io
 use Rattle.stack_meaning.specs.Outcomes.{Outcome, Images, mismatch, then_outcome}
 use Rattle.stack_meaning.specs.Found.{FoundRecord}
-use Rattle.stack_meaning.specs.Blocks.{hash_sectors, hash_start, next_digest, checked, checked_span, is_ignored, data_block_at}
+use Rattle.stack_meaning.specs.Blocks.{hash_block_at, hash_sectors, next_digest, checked, is_ignored, data_block_at}
 use Rattle.stack_meaning.specs.Leaves.{steady_images, AreRead}
 use Rattle.stack_meaning.specs.Places.{Place, Expected, run_expected}
-use Rattle.stack_meaning.specs.Reading.{Gets, IsCertain}
-use Rattle.stack_meaning.specs.Spares.{data_spare, healed_outcome}
-use Rattle.stack_engine.specs.Healing.{IsHealed, healed_result}
+use Rattle.stack_meaning.specs.Reading.{Answers, Gets, IsCertain}
+use Rattle.stack_engine.specs.Healing.{IsHealed, IsSettled, healed_result}
 use Rattle.stack_engine.proofs.HealLemmas.{checked-other}
-use Rattle.stack_lines.specs.Walks.{checked_expected, DataBlock, block_leaves, means_below, data_expected, chain_expected, sources_of, spare_cost, spare_expected, GetsChain, IsWalked}
-use Rattle.stack_meaning.proofs.lemmas.AgreementLemmas.{agreed-restored}
+use Rattle.stack_lines.specs.Walks.{at_number, checked_expected, DataBlock, block_leaves, healed_expected, means_below, data_expected, chain_expected, sources_of, spare_cost, spare_expected, way_cost, way_expected, GetsChain, IsWalked}
+use Rattle.stack_meaning.proofs.lemmas.CoveredLemmas.{covered-data}
 use Rattle.stack_meaning.proofs.lemmas.CheckedLemmas.{checked-same}
-use Rattle.stack_meaning.proofs.lemmas.LeafListLemmas.{AreRead-none, AreRead-then, AreRead-more, failed_earlier, failed_later, images-kept}
+use Rattle.stack_meaning.proofs.lemmas.LeafListLemmas.{AreRead-none, AreRead-then, AreRead-more, images-kept}
 use Rattle.stack_lines.proofs.lemmas.StandingLemmas.{or-true}
 use Rattle.stack_meaning.proofs.lemmas.RunLemmas.{certain-for, fault_passes}
+use Rattle.stack_engine.proofs.lemmas.HealedLemmas.{IsCoveredAt, IsOnLine, block-answered, block-healed, block-read, block-settled}
 use Rattle.allocation.specs.Refusal.{IsOutOfMemory}
 use Rattle.stack_meaning.specs.Memory.{largest_allocation}
 
@@ -69,15 +69,18 @@ hash-in b i is = ap (λ (x : Bool). b.on_data.leaves i || (x || b.on_parity.leav
 data-in : (b : DataBlock) (i : ℕ) → IsTrue (b.on_data.leaves i) → IsTrue (block_leaves b i)
 data-in b i is = ap (λ (x : Bool). x || (b.on_hash.leaves i || b.on_parity.leaves i)) is
 
+-- the devices of a line
+on-data : (b : DataBlock) → IsOnLine b b.on_data
+on-data b = record { within = data-in b; agrees = λ images agrees. agrees.on_data }
+
+pub on-hash : (b : DataBlock) → IsOnLine b b.on_hash
+on-hash b = record { within = hash-in b; agrees = λ images agrees. agrees.on_hash }
+
+-- a data block is the covered block of its number
+data-at : (b : DataBlock) → b.index < b.verity.blocks → IsCoveredAt b b.on_data (block_sectors b.verity * b.index) (block_sectors b.verity) b.index
+data-at b there = record { verified = omega (arith, there); covered = λ p has images. covered-data b.verity (sources_of b images) b.index there }
+
 module _ {A : Type 0} (bytes_of : A → List ℕ) (b : DataBlock) (expected : List ℕ) where
-  -- what makes the block certain makes its own read certain, and that of its spare
-  own-sure : {old mid : List Device} {m : ℕ} → AreRead old m mid → IsCertain (data_expected bytes_of b expected) old
-      → IsCertain (checked_expected bytes_of b.on_data (block_sectors b.verity * b.index) (block_sectors b.verity) b.verity.salt expected) mid
-  own-sure moved = certain-for (checked_expected bytes_of b.on_data (block_sectors b.verity * b.index) (block_sectors b.verity) b.verity.salt expected) moved (data-in b) (λ meets. inl refl) (λ images agrees. agrees.on_data)
-
-  spare-sure : {old mid : List Device} {m : ℕ} → AreRead old m mid → IsCertain (data_expected bytes_of b expected) old → IsCertain (spare_expected bytes_of b expected) mid
-  spare-sure moved = certain-for (spare_expected bytes_of b expected) moved (λ i on. on) (λ meets. inl refl) (λ images agrees. agrees)
-
   -- one that is ignored
   pub data_zeros : (leaves : List Device) (x : A) → 512 * block_sectors b.verity ≡ b.verity.data_block → is_ignored b.verity expected ≡ true → bytes_of x ≡ zero_block b.verity
       → Gets (data_expected bytes_of b expected) leaves leaves (Ok x)
@@ -87,108 +90,86 @@ module _ {A : Type 0} (bytes_of : A → List ℕ) (b : DataBlock) (expected : Li
     exact = λ sure. cond-true _ _ _ zeros ∙ ap Ok (sym is);
   }
 
-  -- one that is read
-  pub data_read : {old new : List Device} (x : A) → is_ignored b.verity expected ≡ false
-      → Gets (checked_expected bytes_of b.on_data (block_sectors b.verity * b.index) (block_sectors b.verity) b.verity.salt expected) old new (Ok x)
-      → Gets (data_expected bytes_of b expected) old new (Ok x)
-  data_read {old = old} x other q = record {
-    moved = AreRead-more (omega arith) q.moved;
+  abbrev used_wanted : Expected A
+  used_wanted = healed_expected bytes_of b b.on_data (block_sectors b.verity * b.index) (block_sectors b.verity) b.index expected
+
+  abbrev own_read : List Device → List Device → Result A IoFault → Type 0
+  own_read old new result = Gets (checked_expected bytes_of b.on_data (block_sectors b.verity * b.index) (block_sectors b.verity) b.verity.salt expected) old new result
+
+  -- one that isn't
+  data-used : {old new : List Device} (result : Result A IoFault) → is_ignored b.verity expected ≡ false → Gets used_wanted old new result → Gets (data_expected bytes_of b expected) old new result
+  data-used {old = old} result other q = record {
+    moved = q.moved;
     may = q.may;
-    exact = λ sure. cond-false _ _ _ other ∙ ap (λ (o : Outcome). healed_outcome o (data_spare b.verity (sources_of b (steady_images old)) b.verity.parity b.index expected)) (q.exact (own-sure (AreRead-none 0 old) sure));
+    exact = λ sure.
+        let unlike : (data_expected bytes_of b expected).means (steady_images old) ≡ used_wanted.means (steady_images old) = cond-false _ _ _ other in
+        subst (λ (o : Outcome). Answers bytes_of o result) (sym unlike) (q.exact (record { steady = sure.steady; agrees = sure.agrees }));
   }
 
-  module _ {old mid : List Device} (fault : Fault) (other : is_ignored b.verity expected ≡ false)
-      (own : Gets (checked_expected bytes_of b.on_data (block_sectors b.verity * b.index) (block_sectors b.verity) b.verity.salt expected) old mid (Err (io.Stack fault))) where
-    healed-exact : IsCertain (data_expected bytes_of b expected) old → (x : Outcome) → data_spare b.verity (sources_of b (steady_images mid)) b.verity.parity b.index expected ≡ x
-        → (data_expected bytes_of b expected).means (steady_images old) ≡ healed_outcome (Err fault) x
-    healed-exact sure x is =
-        let images : steady_images mid ≡ steady_images old = images-kept own.moved in
-        cond-false _ _ _ other
-        ∙ ap (λ (o : Outcome). healed_outcome o (data_spare b.verity (sources_of b (steady_images old)) b.verity.parity b.index expected)) (own.exact (own-sure (AreRead-none 0 old) sure))
-        ∙ ap (λ (o : Outcome). healed_outcome (Err fault) o) (ap (λ (i : Images). data_spare b.verity (sources_of b i) b.verity.parity b.index expected) (sym images) ∙ is)
+  spare-as : {old new : List Device} (spare : Result A IoFault) → Gets (spare_expected bytes_of b expected) old new spare → Gets (spare_expected bytes_of (at_number b b.index) expected) old new spare
+  spare-as spare q = record {
+    moved = q.moved;
+    may = q.may;
+    exact = λ sure. q.exact (record {
+      steady = sure.steady;
+      agrees = λ meets. let all = sure.agrees meets in record { on_data = all.on_data; on_hash = all.on_hash; on_parity = all.on_parity; line = all.line };
+    });
+  }
 
-    -- or by its spare
-    pub data_healed : {new : List Device} (spare : Result A IoFault) → Gets (spare_expected bytes_of b expected) mid new spare → Gets (data_expected bytes_of b expected) old new (healed_result (io.Stack fault) spare)
-    data_healed (Ok x) q = record {
-      moved = AreRead-then own.moved q.moved;
-      may = q.may;
-      exact = λ sure. healed-exact sure (Ok (bytes_of x)) (q.exact (spare-sure own.moved sure));
-    }
-    data_healed (Err (io.Stack vain)) q = record {
-      moved = AreRead-then own.moved q.moved;
-      may = own.may;
-      exact = λ sure. healed-exact sure (Err vain) (q.exact (spare-sure own.moved sure));
-    }
-    data_healed (Err (io.Device i)) q = record {
-      moved = AreRead-then own.moved q.moved;
-      may = (q.may.0, failed_later own.moved.moved q.moved.moved q.may.1);
-      exact = λ sure. tt;
-    }
-    data_healed (Err io.NoMemory) q = record { moved = AreRead-then own.moved q.moved; may = q.may; exact = λ sure. tt }
+  -- one that is read
+  pub data_read : {old new : List Device} (x : A) → is_ignored b.verity expected ≡ false → own_read old new (Ok x) → Gets (data_expected bytes_of b expected) old new (Ok x)
+  data_read x other q = data-used (Ok x) other (block-read bytes_of b b.on_data (block_sectors b.verity * b.index) (block_sectors b.verity) b.index expected (on-data b) x q)
 
-  -- a device failed: its spare is the block that is stored, or the device's fault stays
-  module _ {old mid : List Device} (leaf : ℕ) (other : is_ignored b.verity expected ≡ false)
-      (own : Gets (checked_expected bytes_of b.on_data (block_sectors b.verity * b.index) (block_sectors b.verity) b.verity.salt expected) old mid (Err (io.Device leaf))) where
-    restored-exact : (x : A) → IsCertain (data_expected bytes_of b expected) old → data_spare b.verity (sources_of b (steady_images mid)) b.verity.parity b.index expected ≡ Ok (bytes_of x)
-        → (data_expected bytes_of b expected).means (steady_images old) ≡ Ok (bytes_of x)
-    restored-exact x sure is =
-        let from = sources_of b (steady_images old) in
-        let spare : data_spare b.verity from b.verity.parity b.index expected ≡ Ok (bytes_of x) = ap (λ (i : Images). data_spare b.verity (sources_of b i) b.verity.parity b.index expected) (sym (images-kept own.moved)) ∙ is in
-        cond-false _ _ _ other ∙ go (checked_span from.on_data (block_sectors b.verity * b.index) (block_sectors b.verity) b.verity.salt expected) refl spare
-      where
-        go : (o : Outcome) → checked_span (sources_of b (steady_images old)).on_data (block_sectors b.verity * b.index) (block_sectors b.verity) b.verity.salt expected ≡ o
-            → data_spare b.verity (sources_of b (steady_images old)) b.verity.parity b.index expected ≡ Ok (bytes_of x)
-            → healed_outcome o (data_spare b.verity (sources_of b (steady_images old)) b.verity.parity b.index expected) ≡ Ok (bytes_of x)
-        go (Ok stored) there spare = ap Ok (sym (agreed-restored b.verity (sources_of b (steady_images old)) b.index expected stored (bytes_of x) (sure.agrees (inl refl)).own there spare))
-        go (Err fault) there spare = ap (healed_outcome (Err fault)) spare
+  -- one whose fault stays
+  pub data_settled : {old new : List Device} (fault : IoFault) → IsSettled b.verity.parity fault → is_ignored b.verity expected ≡ false → own_read old new (Err fault) → Gets (data_expected bytes_of b expected) old new (Err fault)
+  data_settled fault settled other q = data-used (Err fault) other (block-settled bytes_of b b.on_data (block_sectors b.verity * b.index) (block_sectors b.verity) b.index expected (on-data b) fault settled q)
 
-    device-stays : {new : List Device} {m : ℕ} → AreRead mid m new → m ≤ spare_cost b → Gets (data_expected bytes_of b expected) old new (Err (io.Device leaf))
-    device-stays more few = record {
-      moved = AreRead-more (omega (arith, few)) (AreRead-then own.moved more);
-      may = (own.may.0, failed_earlier more.moved own.may.1);
-      exact = λ sure. tt;
-    }
-
-    pub data_restored : {new : List Device} (spare : Result A IoFault) → Gets (spare_expected bytes_of b expected) mid new spare → Gets (data_expected bytes_of b expected) old new (healed_result (io.Device leaf) spare)
-    data_restored (Ok x) q = record {
-      moved = AreRead-then own.moved q.moved;
-      may = q.may;
-      exact = λ sure. restored-exact x sure (q.exact (spare-sure own.moved sure));
-    }
-    data_restored (Err (io.Stack vain)) q = device-stays q.moved (omega arith)
-    data_restored (Err (io.Device i)) q = device-stays q.moved (omega arith)
-    data_restored (Err io.NoMemory) q = record { moved = AreRead-then own.moved q.moved; may = q.may; exact = λ sure. tt }
+  -- or by its spare
+  pub data_healed : {old mid new : List Device} (fault : Fault) → is_ignored b.verity expected ≡ false → own_read old mid (Err (io.Stack fault)) → (spare : Result A IoFault) → Gets (spare_expected bytes_of b expected) mid new spare
+      → Gets (data_expected bytes_of b expected) old new (healed_result (io.Stack fault) spare)
+  data_healed fault other own spare q =
+      data-used (healed_result (io.Stack fault) spare) other
+      (block-healed bytes_of b b.on_data (block_sectors b.verity * b.index) (block_sectors b.verity) b.index expected (on-data b) refl fault own spare (spare-as spare q))
 
   -- whichever fault its own read ended in
-  pub data_answered : {old mid new : List Device} (own : IoFault) (spare : Result A IoFault) → IsHealed b.verity.parity own → is_ignored b.verity expected ≡ false
-      → Gets (checked_expected bytes_of b.on_data (block_sectors b.verity * b.index) (block_sectors b.verity) b.verity.salt expected) old mid (Err own) → Gets (spare_expected bytes_of b expected) mid new spare
+  pub data_answered : {old mid new : List Device} (own : IoFault) (spare : Result A IoFault) → IsHealed b.verity.parity own → b.index < b.verity.blocks → is_ignored b.verity expected ≡ false → own_read old mid (Err own) → Gets (spare_expected bytes_of b expected) mid new spare
       → Gets (data_expected bytes_of b expected) old new (healed_result own spare)
-  data_answered (io.Stack fault) spare heals other own q = data_healed fault other own spare q
-  data_answered (io.Device leaf) spare heals other own q = data_restored leaf other own spare q
-  data_answered io.NoMemory spare heals other own q = let clash : false ≡ true = heals in absurd cc
+  data_answered own spare heals there other read q =
+      data-used (healed_result own spare) other
+      (block-answered bytes_of b b.on_data (block_sectors b.verity * b.index) (block_sectors b.verity) b.index expected (on-data b) refl (data-at b there) own spare heals read (spare-as spare q))
 
 -- ---- the walk
 
--- the cost of some hash blocks on the way
-levels_cost : (v hb cost m n : ℕ) → m + n ≤ v → m * (hb * cost) + n * (hb * cost) ≤ v * hb * cost
-levels_cost v hb cost m n h =
-    let same : v * hb * cost ≡ v * (hb * cost) = mul_assoc v hb cost in
-    let most : (m + n) * (hb * cost) ≤ v * (hb * cost) = mul-le-mul_right (hb * cost) h in
-    omega (arith, same, most)
+-- the cost of some hash blocks on the way, of a data block, and of as many spares
+module _ (b : DataBlock) where
+  abbrev all_levels : ℕ
+  all_levels = levels (tree_of b.verity)
 
--- what is expected of the hash block of level l
-abbrev hash_expected : {A : Type 0} → (A → List ℕ) → DataBlock → ℕ → List ℕ → Expected A
-hash_expected bytes_of b l expected = checked_expected bytes_of b.on_hash (hash_start b.verity l b.index) (hash_sectors b.verity) b.verity.salt expected
+  pub chain-spent : all_levels * way_cost b + (block_sectors b.verity * b.on_data.cost + spare_cost b) ≡ (chain_expected b).cost
+  chain-spent =
+      let hashes : all_levels * hash_sectors b.verity * b.on_hash.cost ≡ all_levels * (hash_sectors b.verity * b.on_hash.cost) = mul_assoc all_levels (hash_sectors b.verity) b.on_hash.cost in
+      let apart : all_levels * way_cost b ≡ all_levels * (hash_sectors b.verity * b.on_hash.cost) + all_levels * spare_cost b = mul-add all_levels (hash_sectors b.verity * b.on_hash.cost) (spare_cost b) in
+      let spares : (all_levels + 1) * spare_cost b ≡ all_levels * spare_cost b + 1 * spare_cost b = add-mul all_levels 1 (spare_cost b) in
+      omega (arith, hashes, apart, spares)
+
+  levels_cost : (m n : ℕ) → m + n ≤ all_levels → m * way_cost b + n * way_cost b ≤ all_levels * way_cost b
+  levels_cost m n h =
+      let most : (m + n) * way_cost b ≤ all_levels * way_cost b = mul-le-mul_right (way_cost b) h in
+      omega (arith, most, add-mul m n (way_cost b))
+
+  -- up to the data block
+  way-spent : (m n : ℕ) → m + n ≤ all_levels → m * way_cost b + n * way_cost b ≤ (chain_expected b).cost
+  way-spent m n h = omega (arith, levels_cost m n h, chain-spent)
 
 -- the meaning goes on with what the next hash block means
 means-step : {A : Type 0} (bytes_of : A → List ℕ) (b : DataBlock) (l : ℕ) {expected : List ℕ} {path : List (List ℕ)} {old mid : List Device} → IsWalked b (suc l) expected path old mid → IsCertain (chain_expected b) old
-    → (x : Outcome) → (hash_expected bytes_of b l expected).means (steady_images mid) ≡ x
+    → (x : Outcome) → (way_expected bytes_of b l expected).means (steady_images mid) ≡ x
     → (chain_expected b).means (steady_images old) ≡ then_outcome x (λ block. means_below b (steady_images old) l (next_digest b.verity l b.index block))
 means-step bytes_of b l {expected = expected} {old = old} {mid = mid} p sure x is =
     let images : steady_images mid ≡ steady_images old = images-kept p.moved in
     p.exact sure
     ∙ ap (λ (y : Outcome). then_outcome y (λ block. means_below b (steady_images old) l (next_digest b.verity l b.index block)))
-    (ap (λ (m : Images). checked_span (λ s. (b.on_hash.said s).means m) (hash_start b.verity l b.index) (hash_sectors b.verity) b.verity.salt expected) (sym images) ∙ is)
+    (ap (λ (m : Images). hash_block_at b.verity (sources_of b m) l (ancestor (tree_of b.verity) (l + 1) b.index) expected) (sym images) ∙ is)
 
 -- and with what the data block means
 means-end : {A : Type 0} (bytes_of : A → List ℕ) (b : DataBlock) {expected : List ℕ} {path : List (List ℕ)} {old mid : List Device} → IsWalked b 0 expected path old mid → IsCertain (chain_expected b) old
@@ -200,37 +181,36 @@ means-end bytes_of b {expected = expected} {old = old} {mid = mid} p sure x is =
     ∙ is
 
 path_cost : (b : DataBlock) {expected : List ℕ} {path : List (List ℕ)} {old mid : List Device} → IsWalked b 0 expected path old mid
-    → length path * (hash_sectors b.verity * b.on_hash.cost) + (block_sectors b.verity * b.on_data.cost + spare_cost b) ≤ (chain_expected b).cost
-path_cost b {path = path} p =
-    let most = levels_cost (levels (tree_of b.verity)) (hash_sectors b.verity) b.on_hash.cost (length path) 0 (omega (arith, p.count)) in omega (arith, most)
+    → length path * way_cost b + (block_sectors b.verity * b.on_data.cost + spare_cost b) ≤ (chain_expected b).cost
+path_cost b {path = path} p = omega (arith, levels_cost b (length path) 0 (omega (arith, p.count)), chain-spent b)
 
 module _ {A : Type 0} (bytes_of : A → List ℕ) (b : DataBlock) (l : ℕ) {expected : List ℕ} {path : List (List ℕ)} {old mid new : List Device} (whole : 512 * hash_sectors b.verity ≡ b.verity.hash_block) (p : IsWalked b (suc l) expected path old mid) where
   -- a step down
-  pub walk_down : (x : A) → Gets (checked_expected bytes_of b.on_hash (hash_start b.verity l b.index) (hash_sectors b.verity) b.verity.salt expected) mid new (Ok x)
+  pub walk_down : (x : A) → Gets (way_expected bytes_of b l expected) mid new (Ok x)
       → IsWalked b l (next_digest b.verity l b.index (bytes_of x)) (path ++ (bytes_of x ∷ [])) old new
   walk_down x q =
       let block : List ℕ = bytes_of x in
       let len : length (path ++ (block ∷ [])) ≡ length path + 1 = length-append path (block ∷ []) in
       record {
         count = omega (arith, p.count, len);
-        moved = subst (λ (k : ℕ). AreRead old (k * (hash_sectors b.verity * b.on_hash.cost)) new) (sym len) (AreRead-more (omega arith) (AreRead-then p.moved q.moved));
+        moved = subst (λ (k : ℕ). AreRead old (k * way_cost b) new) (sym len) (AreRead-more (omega (arith, add-mul (length path) 1 (way_cost b))) (AreRead-then p.moved q.moved));
         hangs = λ rest content h hangs.
             let at : next_digest b.verity l b.index block ≡ next_digest b.verity (length rest) b.index block = ap (λ (k : ℕ). next_digest b.verity k b.index block) (sym h) in
             let size : length block ≡ b.verity.hash_block = q.may.0 ∙ whole in
             subst (λ (y : List (List ℕ)). HangsFrom (tree_of b.verity) b.verity.salt b.index b.verity.root y content) (sym (append_assoc path (block ∷ []) rest))
             (p.hangs (block ∷ rest) content (omega (arith, h)) (size, q.may.1, subst (λ (e : List ℕ). HangsFrom (tree_of b.verity) b.verity.salt b.index e rest content) at hangs));
-        exact = λ sure. means-step bytes_of b l p sure (Ok block) (q.exact (certain-for (hash_expected bytes_of b l expected) p.moved (hash-in b) (λ meets. inl refl) (λ images agrees. agrees.on_hash) sure));
+        exact = λ sure. means-step bytes_of b l p sure (Ok block) (q.exact (certain-for (way_expected bytes_of b l expected) p.moved (λ i on. on) (λ meets. inl refl) (λ images agrees. agrees) sure));
       }
 
   -- a fault on the way down
-  pub walk_stops : (fault : IoFault) → Gets (checked_expected bytes_of b.on_hash (hash_start b.verity l b.index) (hash_sectors b.verity) b.verity.salt expected) mid new (Err fault)
+  pub walk_stops : (fault : IoFault) → Gets (way_expected bytes_of b l expected) mid new (Err fault)
       → GetsChain b old new (Err fault)
   walk_stops fault q =
-      fault_passes {wanted = hash_expected bytes_of b l expected} {wanted' = chain_expected b} fault q p.moved
-      (let most = levels_cost (levels (tree_of b.verity)) (hash_sectors b.verity) b.on_hash.cost (length path) 1 (omega (arith, p.count)) in omega (arith, most))
+      fault_passes {wanted = way_expected bytes_of b l expected} {wanted' = chain_expected b} fault q p.moved
+      (omega (arith, way-spent b (length path) 1 (omega (arith, p.count))))
       (λ x meets. elim meets [ inl differs ↦ inl differs | inr some ↦ inr (inr (l, omega (arith, p.count), some)) ])
-      (hash-in b)
-      (λ images agrees. agrees.on_hash)
+      (λ i on. on)
+      (λ images agrees. agrees)
       (λ sure x is. means-step bytes_of b l p sure (Err x) is)
 
 module _ {A : Type 0} (bytes_of : A → List ℕ) (b : DataBlock) {expected : List ℕ} {path : List (List ℕ)} {old mid new : List Device} (whole : 512 * block_sectors b.verity ≡ b.verity.data_block) (p : IsWalked b 0 expected path old mid) where
@@ -257,7 +237,7 @@ module _ {A : Type 0} (bytes_of : A → List ℕ) (b : DataBlock) {expected : Li
 -- no memory for the path
 pub walk_full : (b : DataBlock) (l : ℕ) → IsOutOfMemory largest_allocation → {expected : List ℕ} {path : List (List ℕ)} {old new : List Device} → IsWalked b l expected path old new → GetsChain b old new (Err io.NoMemory)
 walk_full b l refused {path = path} p = record {
-  moved = AreRead-more (let most = levels_cost (levels (tree_of b.verity)) (hash_sectors b.verity) b.on_hash.cost (length path) 0 (omega (arith, p.count)) in omega (arith, most)) p.moved;
+  moved = AreRead-more (omega (arith, way-spent b (length path) 0 (omega (arith, p.count)))) p.moved;
   may = refused;
   exact = λ sure. tt;
 }

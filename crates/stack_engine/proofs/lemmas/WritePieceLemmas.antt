@@ -10,7 +10,7 @@ use Rattle.stack_meaning.specs.declared.fault.Fault.TheVariants as why
 use Rattle.stack_meaning.specs.declared.fault.IoFault.TheVariants as io
 use Rattle.stack_meaning.specs.May.{MayFault}
 use Rattle.stack_meaning.specs.Changes.{reached, AreWritten, NoneRead, AllWhole}
-use Rattle.stack_lines.specs.Forgetting.{Forgets}
+use Rattle.stack_lines.specs.Forgetting.{DropsLast, Forgets}
 use Rattle.stack_lines.specs.Touches.{failures_behind, leaves_of}
 use Rattle.stack_lines.specs.Writing.{sectors_in, SomeEncrypt, MayEnd, destination_of, StopsAt, StopsAtFault, StopsBehindPut, with_some, WritesSectors}
 use Rattle.stack_engine.specs.Stacks.{StackRecord, IsSound}
@@ -21,7 +21,7 @@ use Rattle.stack_engine.specs.WritePieces.{piece_reached, ArePiece, AnyWrite, Ea
 use Rattle.stack_meaning.proofs.lemmas.LeafListLemmas.{AreRead-none, leaves_kept, failed_later}
 use Rattle.stack_meaning.proofs.lemmas.ChangeLemmas.{KeepsOthers-none, differ-within, reached-first, reached-later, AreWritten-none, AreWritten-then, AreWritten-more}
 use Rattle.stack_meaning.proofs.lemmas.FoundLemmas.{SomeOf-more}
-use Rattle.stack_lines.proofs.lemmas.KeptLemmas.{forgets-none, forgets-then}
+use Rattle.stack_lines.proofs.lemmas.KeptLemmas.{drops-none, drops-then, forgets-none, forgets-then}
 use Rattle.stack_lines.proofs.lemmas.PutLemmas.{put-none}
 use Rattle.stack_lines.proofs.lemmas.StopLemmas.{stop-here, stop-later, behind-of}
 use Rattle.stack_lines.proofs.lemmas.WriteRunLemmas.{length-sectors_in}
@@ -34,8 +34,8 @@ WritesTo c d first bytes w w' result = WritesSectors (destination_of c (mapped d
 
 -- as the stack's own record
 pub each-write : {w w' : StackRecord} (d first : ℕ) (bytes : List ℕ) (result : Result Unit IoFault) → ArePiece bytes → w'.config ≡ w.config → w'.capacity ≡ w.capacity → w'.restored ≡ w.restored → (AllWhole w.leaves → AllWhole w'.leaves)
-    → Forgets w.config (leaves_of w.config (mapped d)) w.leaves w'.leaves w.kept w'.kept → WritesTo w.config d first bytes w w' result → EachWrite w d first bytes result w'
-each-write {w = w} {w' = w'} d first bytes result piece config capacity restored whole forgets p =
+    → Forgets w.config (leaves_of w.config (mapped d)) w.leaves w'.leaves w.kept w'.kept → DropsLast w.leaves w'.leaves w.last w'.last → WritesTo w.config d first bytes w w' result → EachWrite w d first bytes result w'
+each-write {w = w} {w' = w'} d first bytes result piece config capacity restored whole forgets drops p =
     let count = length-sectors_in bytes in
     let any : AnyWrite w d first bytes result w' = record {
       config = config;
@@ -47,6 +47,7 @@ each-write {w = w} {w' = w'} d first bytes result piece config capacity restored
       stops = subst (λ (n : ℕ). StopsAtFault (said_at w.config (mapped d)) first n w.leaves w'.leaves result) count p.stops;
       unread = subst (λ (n : ℕ). (SomeEncrypt (said_at w.config (mapped d)) first n → ⊥) → NoneRead w.leaves w'.leaves) count p.unread;
       forgets = forgets;
+      drops = drops;
       fails = p.fails;
       short = λ is. absurd (p.grown is);
     } in
@@ -79,7 +80,7 @@ none-written w d first bytes refused piece some = record {
 }
   where
     any : AnyWrite w d first bytes (Err io.NoMemory) w
-    any = record { config = refl; capacity = refl; restored = refl; whole = λ h. h; moved = AreWritten-none _ _ w.leaves; ends = (refl, refused); stops = λ counted. none-stop w d first (length bytes / 512) refused some; unread = λ none. refl; forgets = none-forgotten w d; fails = refl; short = λ is. refl }
+    any = record { config = refl; capacity = refl; restored = refl; whole = λ h. h; moved = AreWritten-none _ _ w.leaves; ends = (refl, refused); stops = λ counted. none-stop w d first (length bytes / 512) refused some; unread = λ none. refl; forgets = none-forgotten w d; drops = drops-none w.last (AreRead-none 0 w.leaves); fails = refl; short = λ is. (refl, refl) }
 
 pub write-sound : (c : Configuration) {w w' : StackRecord} {d first : ℕ} {bytes : List ℕ} {result : Result Unit IoFault} → IsSound c w.leaves → EachWrite w d first bytes result w' → IsSound c w'.leaves
 write-sound c {w = w} {w' = w'} s p = record { loaded = s.loaded; serve = leaves_kept c.leaves w.leaves w'.leaves p.any.moved.moved.fixed s.serve }
@@ -95,7 +96,7 @@ fault_of fault e = cc
 -- nothing was written yet
 pub write-none : (w : StackRecord) (d first : ℕ) → WritesInPieces w d first [] (Ok tt) w
 write-none w d first = record {
-  any = record { config = refl; capacity = refl; restored = refl; whole = λ h. h; moved = AreWritten-none _ _ w.leaves; ends = tt; stops = tt; unread = λ none. refl; forgets = none-forgotten w d; fails = refl; short = λ is. refl };
+  any = record { config = refl; capacity = refl; restored = refl; whole = λ h. h; moved = AreWritten-none _ _ w.leaves; ends = tt; stops = tt; unread = λ none. refl; forgets = none-forgotten w d; drops = drops-none w.last (AreRead-none 0 w.leaves); fails = refl; short = λ is. (refl, refl) };
   pieces = nothing;
 }
 
@@ -134,6 +135,7 @@ module _ {w w' w'' : StackRecord} (d first : ℕ) (x y z : List ℕ) (even : len
     stops = stops-later result (subst (λ (c : Configuration). StopsAtFault (said_at c (mapped d)) (first + length x / 512) (length y / 512) w'.leaves w''.leaves result) p.config q.stops);
     unread = λ none. after-unread none ∙ p.unread (λ some. none (some.0, omega (arith, some.1, fits x y z even), some.2));
     forgets = forgets-then p.forgets (subst (λ (c : Configuration). Forgets c (leaves_of c (mapped d)) w'.leaves w''.leaves w'.kept w''.kept) p.config q.forgets);
+    drops = drops-then p.drops q.drops;
     fails = q.fails ∙ ap (failures_behind result) p.fails;
     short = λ is. absurd (grown is);
   }

@@ -1,5 +1,5 @@
--- A data block of a line whose leaves agree with what parity restores.
-use Rattle.std.proofs.Common.{ℕ, ◌<◌, Bool, IsTrue, false, ◌||◌, sym, ap, ◌∙◌, subst}
+-- The blocks of a line whose leaves agree with what parity restores.
+use Rattle.std.proofs.Common.{ℕ, Bool, IsTrue, false, ◌||◌, sym, ap, ◌∙◌, subst}
 use Rattle.std.specs.Option.{option_map_or}
 use Rattle.dm_table.specs.declared.table.Target.TheVariants.{Verity as verity_target}
 use Rattle.dm_table.specs.declared.verity.Verity.{Verity}
@@ -16,7 +16,7 @@ use Rattle.stack_lines.specs.Walks.{AgreesAt, HasVerity, block_in, block_leaves}
 use Rattle.stack_lines.proofs.lemmas.StandingLemmas.{or-true}
 use Rattle.stack_lines.proofs.lemmas.TouchLemmas.{verity-leaves, verity-names}
 
-module _ (c : Configuration) (d l : ℕ) (v : Verity) (k : ℕ) (has : HasVerity c d l v) (there : k < v.blocks) (images : Images) where
+module _ (c : Configuration) (d l : ℕ) (v : Verity) (k : ℕ) (has : HasVerity c d l v) (images : Images) where
   of-line : (i : ℕ) → IsTrue (block_leaves (block_in c v k) i) → IsTrue (target_leaves c (verity_target v) i)
   of-line i on = subst IsTrue (sym (verity-leaves c v k i)) on
 
@@ -29,7 +29,7 @@ module _ (c : Configuration) (d l : ℕ) (v : Verity) (k : ℕ) (has : HasVerity
     on_data = agrees-within c images (λ i on. of-line i (ap (λ (b : Bool). b || (name_stands_on c i v.hash || at i)) on)) all;
     on_hash = agrees-within c images (λ i on. of-line i (ap (λ (b : Bool). name_stands_on c i v.data || (b || at i)) on ∙ or-true (name_stands_on c i v.data))) all;
     on_parity = agrees-within c images (λ i on. of-line i (ap (λ (b : Bool). name_stands_on c i v.data || (name_stands_on c i v.hash || b)) on ∙ ap (λ (b : Bool). name_stands_on c i v.data || b) (or-true (name_stands_on c i v.hash)) ∙ or-true (name_stands_on c i v.data))) all;
-    own = λ p is. all d l has.line v has.is has.has (λ i on. on) p is k there;
+    line = all d l has.line v has.is has.has (λ i on. on);
   }
 
   -- by those beneath its device

@@ -12,7 +12,7 @@ use Rattle.stack_rules.specs.Records.{Configuration}
 use Rattle.stack_rules.specs.Names.{mapped}
 use Rattle.stack_rules.specs.Descend.{by_name, line_read_cost, read_cost}
 use Rattle.stack_rules.specs.Rules.{IsLoaded, IsValid}
-use Rattle.stack_rules.specs.Trees.{block_sectors}
+use Rattle.stack_rules.specs.Trees.{block_sectors, path_blocks, path_sectors}
 use Rattle.stack_rules.specs.targets.Verity.{mend_cost, parity_bases}
 use Rattle.stack_meaning.specs.Units.{units_of, per_unit}
 use Rattle.stack_meaning.proofs.lemmas.UnitSizeLemmas.{per_unit-some, per_unit-of}
@@ -91,9 +91,9 @@ module _ (c : Configuration) (x : VerityPart) (n : ℕ) where
 
 -- ---- one data block
 
--- its chain and its spare cost what a sector of its line does
+-- its chain and the spares of its blocks cost what a sector of its line does
 pub chain-cost : (c : Configuration) (v : Verity) (i : ℕ) → (chain_expected (block_in c v i)).cost ≡ line_read_cost (by_name c 0 (read_cost c)) (verity_target v)
-chain-cost c v i = omega (arith, spare v.parity)
+chain-cost c v i = ap (λ (k : ℕ). block_sectors v * at v.data + path_sectors v * at v.hash + path_blocks v * k) (spare v.parity)
   where
     at : List ℕ → ℕ
     at = by_name c 0 (read_cost c)

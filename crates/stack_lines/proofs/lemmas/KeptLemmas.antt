@@ -1,5 +1,5 @@
--- Which kept hash blocks writes forget, one after another.
-use Rattle.std.proofs.Common.{◌≡◌, ℕ, Bool, true, false, IsTrue, not, cond, ◌&&◌, ◌||◌, ◌==◌, List, [], ◌∷◌, ◌++◌, length, get_or, map, All, Contains, refl, sym, ap, ◌∙◌, subst, arith, inl, inr}
+-- Which kept blocks writes forget, one after another.
+use Rattle.std.proofs.Common.{◌≡◌, ℕ, Bool, true, false, IsTrue, not, cond, ◌&&◌, ◌||◌, ◌==◌, List, [], ◌∷◌, ◌++◌, length, get_or, map, All, Contains, Option, refl, sym, ap, ◌∙◌, subst, arith, inl, inr}
 use Rattle.std.specs.Prelude.{filter}
 use Rattle.std.specs.List.{list_any}
 use Rattle.std.proofs.lemmas.Bool.{cases_lt}
@@ -15,7 +15,7 @@ use Rattle.verified_cache.specs.declared.key.Key.{Key}
 use Rattle.stack_meaning.specs.Changes.{KeepsOthers, reached}
 use Rattle.stack_meaning.specs.Leaves.{Fixed, fixed_part, AreRead}
 use Rattle.stack_meaning.specs.Meaning.{said_at}
-use Rattle.stack_lines.specs.Forgetting.{IsUnwritten, Forgets}
+use Rattle.stack_lines.specs.Forgetting.{DropsLast, IsUnwritten, Forgets}
 use Rattle.stack_lines.specs.Standing.{key_stands_on}
 use Rattle.stack_lines.specs.Touches.{leaves_of}
 use Rattle.stack_lines.proofs.lemmas.ForgetLemmas.{others-alone}
@@ -121,6 +121,23 @@ module _ {c : Configuration} where
     others = p.others;
     kept = p.kept;
   }
+
+-- ---- the data block that is kept
+
+-- reads alone leave it
+pub drops-none : {old new : List Device} {n : ℕ} (kept : Option CachedBlock) → AreRead old n new → DropsLast old new kept kept
+drops-none kept a = record { is = inl ((λ i d. unwritten-read a i d), refl) }
+
+pub drops-then : {old mid new : List Device} {before between after : Option CachedBlock} → DropsLast old mid before between → DropsLast mid new between after → DropsLast old new before after
+drops-then p q = record {
+  is = elim q.is [
+    | inl y ↦ elim p.is [
+      | inl x ↦ inl ((λ i d. unwritten-then (x.0 i d) (y.0 i d)), y.1 ∙ x.1)
+      | inr none ↦ inr (y.1 ∙ none)
+    ]
+    | inr none ↦ inr none
+  ];
+}
 
 -- ---- what is left after a write
 

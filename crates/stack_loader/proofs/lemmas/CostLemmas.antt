@@ -22,7 +22,7 @@ use Rattle.stack_rules.specs.declared.lower.Lower.{Lower}
 use Rattle.stack_rules.specs.declared.lower.Lower.TheVariants.{Leaf as leaf, Device as device}
 use Rattle.stack_rules.specs.Records.{Configuration, DeviceRecord}
 use Rattle.stack_rules.specs.Names.{mapped, named, names, lowers_of, lines_of}
-use Rattle.stack_rules.specs.Trees.{block_sectors, path_sectors, mend_sectors, verity_of}
+use Rattle.stack_rules.specs.Trees.{block_sectors, path_blocks, path_sectors, mend_sectors, verity_of}
 use Rattle.stack_rules.specs.targets.Verity.{parity_bases, mend_cost}
 use Rattle.stack_rules.specs.Units.{crypt_of, unit_write_cost}
 use Rattle.stack_rules.specs.Descend.{greatest, known, by_name, depth, descend, cost_rule, line_read_cost, line_write_cost, read_cost, write_cost}
@@ -80,14 +80,14 @@ mend-row c below row ns verity (Some parity) means = ap (λ n. mend_sectors veri
 
 -- the lower devices of a verity line
 pub line_read_cost-verity : (c : Configuration) (below : Lower → ℕ) (row : List Lower) (verity : VerityRecord) → Mean c row (names (Verity verity))
-    → block_sectors verity * option_map_or below (slice_get row 0) 0 + path_sectors verity * option_map_or below (slice_get row 1) 0 + mend_cost verity verity.parity (map below row) ≡ line_read_cost (by_name c 0 below) (Verity verity)
+    → block_sectors verity * option_map_or below (slice_get row 0) 0 + path_sectors verity * option_map_or below (slice_get row 1) 0 + path_blocks verity * mend_cost verity verity.parity (map below row) ≡ line_read_cost (by_name c 0 below) (Verity verity)
 line_read_cost-verity c below (l ∷ m ∷ ls) verity means =
     let first : Some l ≡ named c verity.data = cc in
     let second : Some m ≡ named c verity.hash = cc in
     let restored = mend-row c below (l ∷ m ∷ ls) (names (Verity verity)) verity verity.parity means in
-    ap (λ n. block_sectors verity * n + path_sectors verity * below m + mend_cost verity verity.parity (map below (l ∷ m ∷ ls))) (ap (known 0 below) first)
-    ∙ ap (λ n. block_sectors verity * by_name c 0 below verity.data + path_sectors verity * n + mend_cost verity verity.parity (map below (l ∷ m ∷ ls))) (ap (known 0 below) second)
-    ∙ ap (λ n. block_sectors verity * by_name c 0 below verity.data + path_sectors verity * by_name c 0 below verity.hash + n) restored
+    ap (λ n. block_sectors verity * n + path_sectors verity * below m + path_blocks verity * mend_cost verity verity.parity (map below (l ∷ m ∷ ls))) (ap (known 0 below) first)
+    ∙ ap (λ n. block_sectors verity * by_name c 0 below verity.data + path_sectors verity * n + path_blocks verity * mend_cost verity verity.parity (map below (l ∷ m ∷ ls))) (ap (known 0 below) second)
+    ∙ ap (λ n. block_sectors verity * by_name c 0 below verity.data + path_sectors verity * by_name c 0 below verity.hash + path_blocks verity * n) restored
 line_read_cost-verity c below [] verity means = let clash : [] ≡ map (named c) (names (Verity verity)) = means in cc
 line_read_cost-verity c below (l ∷ []) verity means = let clash : [] ≡ map (named c) (verity.hash ∷ map (λ (base : Base). base.device) (parity_bases verity.parity)) = cc in cc
 

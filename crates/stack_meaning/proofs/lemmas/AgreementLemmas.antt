@@ -1,5 +1,5 @@
--- Images over which data blocks agree with what parity restores.
-use Rattle.std.proofs.Common.{◌≡◌, ℕ, ◌*◌, ◌<◌, Bool, IsTrue, true, false, ◌||◌, ◌==◌, List, [], ◌∷◌, get_or, Option, Some, None, Ok, refl, sym, ap, ◌∙◌, subst, arith}
+-- Images over which blocks agree with what parity restores.
+use Rattle.std.proofs.Common.{◌≡◌, ℕ, ◌<◌, Bool, IsTrue, true, false, ◌||◌, ◌==◌, List, [], ◌∷◌, get_or, Option, Some, None, Ok, refl, sym, ap, ◌∙◌, subst, arith}
 use Rattle.std.specs.List.{AllByRecursion, list_any}
 use Rattle.std.proofs.lemmas.Bool.Decides.{nat_tests}
 use Rattle.dm_table.specs.declared.parity.Parity.{Parity}
@@ -11,7 +11,6 @@ use Rattle.stack_rules.specs.Descend.{by_name, known}
 use Rattle.stack_rules.specs.Names.{named, names}
 use Rattle.stack_rules.specs.Records.{Configuration}
 use Rattle.tree_shape.specs.Digests.{digest}
-use Rattle.stack_rules.specs.Trees.{block_sectors}
 use Rattle.stack_meaning.specs.Agreement.{AgreesOn, BlockAgrees, LineAgrees}
 use Rattle.stack_meaning.specs.Beneath.{below}
 use Rattle.stack_meaning.specs.LeavesBeneath.{leaves_beneath, name_stands_on, stands_on, target_leaves}
@@ -19,7 +18,7 @@ use Rattle.stack_meaning.specs.Meaning.{Said, none_said, said_at, said_by_name}
 use Rattle.stack_meaning.specs.Checked.{checked, checked_span}
 use Rattle.stack_meaning.specs.Outcomes.{Images, Outcome, span}
 use Rattle.stack_meaning.specs.targets.Verity.{sources_over}
-use Rattle.stack_meaning.specs.Spares.{BlockSources, data_spare, restored_block}
+use Rattle.stack_meaning.specs.Spares.{BlockSources, covered_block, covered_spare, restored_block}
 use Rattle.stack_meaning.proofs.lemmas.BaseLemmas.{below-each}
 use Rattle.stack_meaning.proofs.lemmas.CheckedLemmas.{checked-digest, checked-is, then-parts}
 use Rattle.stack_meaning.proofs.lemmas.LeavesBeneathLemmas.{sector-alike}
@@ -39,16 +38,16 @@ checked-block from first n salt expected own is =
     (parts.1 ∙ ap Ok (checked-is salt expected parts.0 own parts.2), checked-digest salt expected parts.0 own parts.2)
 
 -- if both are there, they are the same
-pub agreed-restored : (v : Verity) (from : BlockSources) (i : ℕ) (expected own restored : List ℕ) → ((p : Parity) → v.parity ≡ Some p → BlockAgrees v p from i)
-    → checked_span from.on_data (block_sectors v * i) (block_sectors v) v.salt expected ≡ Ok own → data_spare v from v.parity i expected ≡ Ok restored → restored ≡ own
-agreed-restored v from i expected own restored agrees is spare = go v.parity refl spare
+pub agreed-restored : (v : Verity) (from : BlockSources) (at : ℕ → Outcome) (first n j : ℕ) (expected own restored : List ℕ) → ((p : Parity) → v.parity ≡ Some p → BlockAgrees v p from j × (span at first n ≡ covered_block v from j))
+    → checked_span at first n v.salt expected ≡ Ok own → covered_spare v from v.parity j expected ≡ Ok restored → restored ≡ own
+agreed-restored v from at first n j expected own restored agrees is spare = go v.parity refl spare
   where
-    go : (o : Option Parity) → v.parity ≡ o → data_spare v from o i expected ≡ Ok restored → restored ≡ own
+    go : (o : Option Parity) → v.parity ≡ o → covered_spare v from o j expected ≡ Ok restored → restored ≡ own
     go None none h = cc
     go (Some p) has h =
-        let stored = checked-block from.on_data (block_sectors v * i) (block_sectors v) v.salt expected own is in
-        let parts = then-parts (restored_block v p from i) (checked v.salt expected) restored h in
-        agrees p has own restored stored.0 (parts.1 ∙ ap Ok (checked-is v.salt expected parts.0 restored parts.2)) (checked-digest v.salt expected parts.0 restored parts.2 ∙ sym stored.1)
+        let stored = checked-block at first n v.salt expected own is in
+        let parts = then-parts (restored_block v p from j) (checked v.salt expected) restored h in
+        (agrees p has).0 own restored (sym (agrees p has).1 ∙ stored.0) (parts.1 ∙ ap Ok (checked-is v.salt expected parts.0 restored parts.2)) (checked-digest v.salt expected parts.0 restored parts.2 ∙ sym stored.1)
 
 -- ---- the images of other leaves don't matter
 

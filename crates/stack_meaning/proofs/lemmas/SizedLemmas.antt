@@ -7,13 +7,14 @@ use Rattle.std.proofs.lemmas.Bool.{cases_lt, cases_Bool, cond-true, cond-false}
 use Rattle.std.proofs.lemmas.Nat.{mod_below}
 use Rattle.block_device.specs.Device.{IsSector}
 use Rattle.dm_table.specs.declared.verity.Verity.{Verity}
-use Rattle.stack_rules.specs.Trees.{block_sectors, zero_block}
+use Rattle.tree_shape.specs.Shape.{ancestor}
+use Rattle.stack_rules.specs.Trees.{block_sectors, tree_of, zero_block}
 use Rattle.xts_sector.proofs.lemmas.UnitLemmas as xts
 use Rattle.stack_meaning.specs.declared.units.CryptUnits.{CryptUnits}
 use Rattle.stack_meaning.specs.Units.{per_unit, crypt_unit_number, decrypted_unit, unit_part, unit_first}
 use Rattle.stack_meaning.specs.Beneath.{said_or}
-use Rattle.stack_meaning.specs.Spares.{BlockSources, data_spare}
-use Rattle.stack_meaning.specs.Blocks.{hash_sectors, hash_start, next_digest, checked, checked_span, is_ignored, data_block_at, block_below}
+use Rattle.stack_meaning.specs.Spares.{BlockSources, covered_spare}
+use Rattle.stack_meaning.specs.Blocks.{hash_block_at, next_digest, checked, checked_span, is_ignored, data_block_at, block_below}
 use Rattle.stack_meaning.specs.Said.{Said, none_said, leaf_said}
 use Rattle.stack_meaning.specs.targets.Crypt.{crypt_said}
 use Rattle.stack_meaning.specs.Outcomes.{Images, Outcome, changed_outcome, joint_outcome, span, zero_sector, AreWhole}
@@ -68,7 +69,7 @@ data-length v below whole sized i expected bytes e = elim (cases_Bool (is_ignore
       ap length (sym same) ∙ length-replicate {A = ℕ} v.data_block 0 ∙ sym whole
   | inr other ↦
       let first : ℕ = block_sectors v * i in
-      elim (healed-from (checked_span below.on_data first (block_sectors v) v.salt expected) (data_spare v below v.parity i expected) bytes (sym (cond-false _ _ _ other) ∙ e)) [
+      elim (healed-from (checked_span below.on_data first (block_sectors v) v.salt expected) (covered_spare v below v.parity i expected) bytes (sym (cond-false _ _ _ other) ∙ e)) [
         | inl own ↦
             let read = then-parts (span below.on_data first (block_sectors v)) (checked v.salt expected) bytes own in
             ap length (sym (checked-is v.salt expected read.0 bytes read.2)) ∙ span-length below.on_data sized first (block_sectors v) read.0 read.1
@@ -79,7 +80,7 @@ data-length v below whole sized i expected bytes e = elim (cases_Bool (is_ignore
 pub block-length : (v : Verity) (below : BlockSources) → 512 * block_sectors v ≡ v.data_block → AreSized below.on_data → (i l : ℕ) (expected bytes : List ℕ) → block_below v below i l expected ≡ Ok bytes → length bytes ≡ 512 * block_sectors v
 block-length v below whole sized i zero expected bytes e = data-length v below whole sized i expected bytes e
 block-length v below whole sized i (suc l) expected bytes e =
-    let read = then-parts (checked_span below.on_hash (hash_start v l i) (hash_sectors v) v.salt expected) (λ block. block_below v below i l (next_digest v l i block)) bytes e in
+    let read = then-parts (hash_block_at v below l (ancestor (tree_of v) (l + 1) i) expected) (λ block. block_below v below i l (next_digest v l i block)) bytes e in
     block-length v below whole sized i l (next_digest v l i read.0) bytes read.2
 
 -- ---- sectors

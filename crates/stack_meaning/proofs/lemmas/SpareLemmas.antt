@@ -18,7 +18,7 @@ use Rattle.stack_rules.specs.Trees.{round_count, zero_block}
 use Rattle.stack_meaning.specs.declared.fault.Fault.{Fault}
 use Rattle.stack_meaning.specs.Outcomes.{Outcome, span, then_outcome}
 use Rattle.stack_meaning.specs.Checked.{checked, checked_span}
-use Rattle.stack_meaning.specs.Spares.{BlockSources, HealedBlocksAreVerified, HealingKeepsBlocks, IsFormerRound, IsWholeBeside, OneLostBlockIsRestored, added_block, covered_block, data_spare, former_byte, healed_outcome, place_number, restored_block, round_block, round_parity, spare_block, summed_blocks, with_parity}
+use Rattle.stack_meaning.specs.Spares.{BlockSources, HealedBlocksAreVerified, HealingKeepsBlocks, IsFormerRound, IsWholeBeside, OneLostBlockIsRestored, added_block, covered_block, covered_spare, former_byte, healed_outcome, place_number, restored_block, round_block, round_parity, spare_block, summed_blocks, with_parity}
 use Rattle.stack_meaning.proofs.lemmas.CheckedLemmas.{checked-digest, checked-is, checked-same, then-parts}
 
 -- ---- sums of blocks
@@ -165,7 +165,7 @@ restored-length v p below j bytes e =
     ap length (sym same) ∙ length-with_parity p.roots read.0 stored.0 ∙ length-summed (zero_block v) at (255 - p.roots) read.0 read.1 ∙ zero-length v
 
 -- a spare has the size of a block
-pub spare-length : (v : Verity) (below : BlockSources) (parity : Option Parity) (i : ℕ) (expected bytes : List ℕ) → data_spare v below parity i expected ≡ Ok bytes → length bytes ≡ v.data_block
+pub spare-length : (v : Verity) (below : BlockSources) (parity : Option Parity) (i : ℕ) (expected bytes : List ℕ) → covered_spare v below parity i expected ≡ Ok bytes → length bytes ≡ v.data_block
 spare-length v below None i expected bytes e = cc
 spare-length v below (Some p) i expected bytes e =
     let read = then-parts (restored_block v p below i) (checked v.salt expected) bytes e in

@@ -1,19 +1,21 @@
 -- The lost runs that a pass found, among the bad sectors that it left.
-use Rattle.std.proofs.Common.{◌≡◌, ℕ, zero, suc, ◌+◌, ◌<◌, ◌≤◌, ◌&&◌, not, Bool, true, false, List, [], ◌∷◌, ◌++◌, length, drop, get_or, replicate, Option, Some, None, refl, sym, ap, ◌∙◌, subst, append-nil, append_assoc, arith}
+use Rattle.std.proofs.Common.{◌≡◌, ℕ, zero, suc, ◌+◌, ◌<◌, ◌≤◌, Bool, true, false, List, [], ◌∷◌, ◌++◌, length, drop, get_or, replicate, Option, Some, None, refl, sym, ap, ap₂, ◌∙◌, subst, append-nil, append_assoc, arith}
 use Rattle.std.specs.Prelude.{nat_le, nat_lt}
 use Rattle.std.proofs.lemmas.Bool.{cond-false, cond-true}
 use Rattle.std.proofs.lemmas.List.{length-append, length-replicate}
 use Rattle.rescue_map.specs.declared.ahead.Ahead.{Ahead}
-use Rattle.rescue_map.specs.Aheads.{losts_ahead, marks_ahead}
-use Rattle.rescue_map.specs.Maps.{losts, marks}
-use Rattle.rescue_map.proofs.lemmas.RunLemmas.{losts-length}
+use Rattle.rescue_map.specs.declared.status.Status.{Status}
+use Rattle.rescue_map.specs.Aheads.{marks_ahead, statuses_ahead}
+use Rattle.rescue_map.specs.Maps.{marks}
+use Rattle.rescue_map.specs.Stages.{run_status, statuses}
+use Rattle.rescue_map.proofs.lemmas.RunLemmas.{statuses-length}
 use Rattle.runs.specs.Runs.{runs_of}
 use Rattle.runs.specs.Tallies.{listed}
 use Rattle.runs.proofs.lemmas.RunLemmas.{IsTallied, tallied-all, tallied-had, tallied-lost, tallied-none}
 use Rattle.stack_recovery.specs.declared.lost_run.Loss.{Loss}
 use Rattle.stack_recovery.specs.declared.lost_run.Loss.TheVariants.{Lost, Unscraped}
 use Rattle.stack_recovery.specs.declared.tally.Tally.{Tally}
-use Rattle.stack_recovery.specs.Joins.{AreSameFrom, EndsAfter, HaveState, closed_with, joined_state, joined_states, opened_with, or_known, state_in}
+use Rattle.stack_recovery.specs.Joins.{AreSameFrom, EndsAfter, HaveJoined, HaveState, closed_with, joined_state, joined_states, opened_with, or_before, state_in}
 use Rattle.stack_recovery.specs.Listings.{Listed, Tells}
 use Rattle.stack_recovery.specs.LostRuns.{LostRun, is_same_loss, lost_count, untried_count}
 use Rattle.stack_recovery.specs.Surveys.{SectorState}
@@ -52,61 +54,61 @@ first-ends_after at (r ∷ more) d some low = low
 
 -- ---- the state of some sectors
 
-pub have-none : (again bad : Bool) (runs : List LostRun) (at n : ℕ) (loss : SectorState) → loss ≡ or_known (bad && not again) None → length runs ≡ 0 → HaveState again bad runs at n loss
-have-none again bad [] at n loss is none j low = sym is
-have-none again bad (r ∷ more) at n loss is none j low = absurd (omega (arith, none))
+pub have-none : (runs : List LostRun) (at n : ℕ) → length runs ≡ 0 → HaveState runs at n None
+have-none [] at n none j low = refl
+have-none (r ∷ more) at n none j low = absurd (omega (arith, none))
 
-pub have-before : (again bad : Bool) (runs : List LostRun) (d : LostRun) (at n : ℕ) (loss : SectorState) → loss ≡ or_known (bad && not again) None → 1 ≤ length runs → EndsAfter at runs → at + n ≤ (get_or runs 0 d).first
-    → HaveState again bad runs at n loss
-have-before again bad [] d at n loss is some ends first j low = absurd (omega (arith, some))
-have-before again bad (r ∷ more) d at n loss is some ends first j low =
-    ap (or_known (bad && not again))
-    (cond-true (nat_lt (at + j) (r.first + r.count)) _ _ (lt-true (at + j) (r.first + r.count) (omega (arith, low, first)))
-    ∙ cond-false (nat_le r.first (at + j)) _ _ (le-false r.first (at + j) (omega (arith, low, first))))
-    ∙ sym is
+pub have-before : (runs : List LostRun) (d : LostRun) (at n : ℕ) → 1 ≤ length runs → EndsAfter at runs → at + n ≤ (get_or runs 0 d).first → HaveState runs at n None
+have-before [] d at n some ends first j low = absurd (omega (arith, some))
+have-before (r ∷ more) d at n some ends first j low =
+    cond-true (nat_lt (at + j) (r.first + r.count)) _ _ (lt-true (at + j) (r.first + r.count) (omega (arith, low, first)))
+    ∙ cond-false (nat_le r.first (at + j)) _ _ (le-false r.first (at + j) (omega (arith, low, first)))
 
-pub have-within : (again bad : Bool) (runs : List LostRun) (d : LostRun) (at n : ℕ) → 1 ≤ length runs → (get_or runs 0 d).first ≤ at → at + n ≤ (get_or runs 0 d).first + (get_or runs 0 d).count
-    → HaveState again bad runs at n (Some (get_or runs 0 d).kind)
-have-within again bad [] d at n some first end j low = absurd (omega (arith, some))
-have-within again bad (r ∷ more) d at n some first end j low =
-    ap (or_known (bad && not again))
-    (cond-true (nat_lt (at + j) (r.first + r.count)) _ _ (lt-true (at + j) (r.first + r.count) (omega (arith, low, end)))
-    ∙ cond-true (nat_le r.first (at + j)) _ _ (le-true r.first (at + j) (omega (arith, first))))
+pub have-within : (runs : List LostRun) (d : LostRun) (at n : ℕ) → 1 ≤ length runs → (get_or runs 0 d).first ≤ at → at + n ≤ (get_or runs 0 d).first + (get_or runs 0 d).count → HaveState runs at n (Some (get_or runs 0 d).kind)
+have-within [] d at n some first end j low = absurd (omega (arith, some))
+have-within (r ∷ more) d at n some first end j low =
+    cond-true (nat_lt (at + j) (r.first + r.count)) _ _ (lt-true (at + j) (r.first + r.count) (omega (arith, low, end)))
+    ∙ cond-true (nat_le r.first (at + j)) _ _ (le-true r.first (at + j) (omega (arith, first)))
+
+pub have-joined : (status : Status) (earlier runs : List LostRun) (at n m : ℕ) (before found loss : SectorState) → HaveState runs at n found → HaveState earlier at m before → m ≤ n → loss ≡ or_before status before found
+    → HaveJoined status earlier runs at m loss
+have-joined status earlier runs at n m before found loss last first few is j low =
+    ap₂ (or_before status) (first j low) (last j (omega (arith, low, few))) ∙ sym is
 
 -- ---- the states of all sectors
 
-states-same : (again : Bool) (at : ℕ) (bads : List Bool) (runs others : List LostRun) → AreSameFrom at runs others → joined_states again at bads runs ≡ joined_states again at bads others
-states-same again at [] runs others same = refl
-states-same again at (bad ∷ bads) runs others same =
-    let here : joined_state again bad runs at ≡ joined_state again bad others at = ap (or_known (bad && not again)) (same at (omega arith)) in
-    ap (λ (s : SectorState). s ∷ joined_states again (suc at) bads runs) here
-    ∙ ap (λ (l : List SectorState). joined_state again bad others at ∷ l) (states-same again (suc at) bads runs others (λ s low. same s (omega (arith, low))))
+states-same : (at : ℕ) (bads : List Status) (before before' runs runs' : List LostRun) → AreSameFrom at before before' → AreSameFrom at runs runs' → joined_states at bads before runs ≡ joined_states at bads before' runs'
+states-same at [] before before' runs runs' first last = refl
+states-same at (status ∷ bads) before before' runs runs' first last =
+    let here : joined_state status before runs at ≡ joined_state status before' runs' at = ap₂ (or_before status) (first at (omega arith)) (last at (omega arith)) in
+    ap (λ (s : SectorState). s ∷ joined_states (suc at) bads before runs) here
+    ∙ ap (λ (l : List SectorState). joined_state status before' runs' at ∷ l) (states-same (suc at) bads before before' runs runs' (λ s low. first s (omega (arith, low))) (λ s low. last s (omega (arith, low))))
 
-states-alike : (again : Bool) (at n : ℕ) (bad : Bool) (rest : List Bool) (runs : List LostRun) (state : SectorState) → HaveState again bad runs at n state
-    → joined_states again at (replicate n bad ++ rest) runs ≡ replicate n state ++ joined_states again (at + n) rest runs
-states-alike again at zero bad rest runs state have = let here : at ≡ at + 0 = omega arith in ap (λ (k : ℕ). joined_states again k rest runs) here
-states-alike again at (suc n) bad rest runs state have =
+states-alike : (at n : ℕ) (status : Status) (rest : List Status) (before runs : List LostRun) (state : SectorState) → HaveJoined status before runs at n state
+    → joined_states at (replicate n status ++ rest) before runs ≡ replicate n state ++ joined_states (at + n) rest before runs
+states-alike at zero status rest before runs state have = let here : at ≡ at + 0 = omega arith in ap (λ (k : ℕ). joined_states k rest before runs) here
+states-alike at (suc n) status rest before runs state have =
     let first : at + 0 ≡ at = omega arith in
     let next : suc at + n ≡ at + suc n = omega arith in
-    ap (λ (s : SectorState). s ∷ joined_states again (suc at) (replicate n bad ++ rest) runs) (ap (λ (k : ℕ). joined_state again bad runs k) (sym first) ∙ have 0 (omega arith))
-    ∙ ap (λ (l : List SectorState). state ∷ l) (states-alike again (suc at) n bad rest runs state
-    (λ j low. let step : suc at + j ≡ at + suc j = omega arith in ap (λ (k : ℕ). joined_state again bad runs k) step ∙ have (suc j) (omega (arith, low))))
-    ∙ ap (λ (k : ℕ). state ∷ (replicate n state ++ joined_states again k rest runs)) next
+    ap (λ (s : SectorState). s ∷ joined_states (suc at) (replicate n status ++ rest) before runs) (ap (λ (k : ℕ). joined_state status before runs k) (sym first) ∙ have 0 (omega arith))
+    ∙ ap (λ (l : List SectorState). state ∷ l) (states-alike (suc at) n status rest before runs state
+    (λ j low. let step : suc at + j ≡ at + suc j = omega arith in ap (λ (k : ℕ). joined_state status before runs k) step ∙ have (suc j) (omega (arith, low))))
+    ∙ ap (λ (k : ℕ). state ∷ (replicate n state ++ joined_states k rest before runs)) next
 
 -- ---- the runs that were reported
 
 -- the sectors before `at` were added to the tally, and what comes after them is ahead
-pub record IsJoining (again : Bool) (bads : List Bool) (found : List LostRun) (old now : Listed) (tally : Tally) (at : ℕ) (left : List Bool) (rest : List LostRun) : Type 0 where
+pub record IsJoining (bads : List Status) (earlier found : List LostRun) (old now : Listed) (tally : Tally) (at : ℕ) (left : List Status) (before rest : List LostRun) : Type 0 where
   pub done : List SectorState
   pub closed : List LostRun
   pub tallied : IsTallied is_same_loss done closed tally.last
   pub here : at ≡ length done
-  pub whole : joined_states again 0 bads found ≡ done ++ joined_states again at left rest
+  pub whole : joined_states 0 bads earlier found ≡ done ++ joined_states at left before rest
   pub told : Tells old now closed
   pub few : tally.lost + tally.untried ≤ at
 
-pub joining-none : (again : Bool) (bads : List Bool) (found : List LostRun) (old : Listed) (tally : Tally) → tally ≡ record { last = None; lost = 0; untried = 0 } → IsJoining again bads found old old tally 0 bads found
-joining-none again bads found old tally is = rw is (record {
+pub joining-none : (bads : List Status) (earlier found : List LostRun) (old : Listed) (tally : Tally) → tally ≡ record { last = None; lost = 0; untried = 0 } → IsJoining bads earlier found old old tally 0 bads earlier found
+joining-none bads earlier found old tally is = rw is (record {
   done = [];
   closed = [];
   tallied = tallied-none is_same_loss is_same-equality;
@@ -121,25 +123,25 @@ tallied-with : (states : List SectorState) (closed : List LostRun) (last : Optio
 tallied-with states closed last at n None here some t = tallied-had is_same_loss is_same-equality states closed last n some t
 tallied-with states closed last at n (Some kind) here some t = tallied-lost is_same_loss is_same-equality states closed last at n kind here some t
 
-pub joining-more : (again : Bool) (bads : List Bool) (found : List LostRun) (old now new : Listed) (tally next : Tally) (at n : ℕ) (bad : Bool) (left left' : List Bool) (rest rest' : List LostRun) (state : SectorState)
-    → IsJoining again bads found old now tally at left rest → AreSameFrom at rest rest' → left ≡ replicate n bad ++ left' → 1 ≤ n → HaveState again bad rest' at n state
+pub joining-more : (bads : List Status) (earlier found : List LostRun) (old now new : Listed) (tally next : Tally) (at n : ℕ) (status : Status) (left left' : List Status) (before before' rest rest' : List LostRun) (state : SectorState)
+    → IsJoining bads earlier found old now tally at left before rest → AreSameFrom at before before' → AreSameFrom at rest rest' → left ≡ replicate n status ++ left' → 1 ≤ n → HaveJoined status before' rest' at n state
     → Tells now new (closed_with tally.last at n state) → next.last ≡ opened_with tally.last at n state → next.lost + next.untried ≤ at + n
-    → IsJoining again bads found old new next (at + n) left' rest'
-joining-more again bads found old now new tally next at n bad left left' rest rest' state u same is some have told last few = record {
+    → IsJoining bads earlier found old new next (at + n) left' before' rest'
+joining-more bads earlier found old now new tally next at n status left left' before before' rest rest' state u first same is some have told last few = record {
   done = u.done ++ replicate n state;
   closed = u.closed ++ closed_with tally.last at n state;
   tallied = rw last (tallied-with u.done u.closed tally.last at n state u.here some u.tallied);
   here = ap (λ (k : ℕ). k + n) u.here ∙ ap (λ (k : ℕ). length u.done + k) (sym (length-replicate {A = SectorState} n state)) ∙ sym (length-append u.done (replicate n state));
-  whole = u.whole ∙ ap (λ (l : List SectorState). u.done ++ l) (states-same again at left rest rest' same ∙ ap (λ (l : List Bool). joined_states again at l rest') is ∙ states-alike again at n bad left' rest' state have)
-      ∙ sym (append_assoc u.done (replicate n state) (joined_states again (at + n) left' rest'));
+  whole = u.whole ∙ ap (λ (l : List SectorState). u.done ++ l) (states-same at left before before' rest rest' first same ∙ ap (λ (l : List Status). joined_states at l before' rest') is ∙ states-alike at n status left' before' rest' state have)
+      ∙ sym (append_assoc u.done (replicate n state) (joined_states (at + n) left' before' rest'));
   told = runs-then old now new u.closed (closed_with tally.last at n state) u.told told;
   few = few;
 }
 
-pub joining-all : (again : Bool) (bads : List Bool) (found : List LostRun) (old now new : Listed) (tally : Tally) (at : ℕ) (left : List Bool) (rest : List LostRun)
-    → IsJoining again bads found old now tally at left rest → length left ≡ 0 → Tells now new (listed tally.last) → Tells old new (runs_of is_same_loss 0 (joined_states again 0 bads found))
-joining-all again bads found old now new tally at (bad ∷ left) rest u none told = absurd (omega (arith, none))
-joining-all again bads found old now new tally at [] rest u none told =
+pub joining-all : (bads : List Status) (earlier found : List LostRun) (old now new : Listed) (tally : Tally) (at : ℕ) (left : List Status) (before rest : List LostRun)
+    → IsJoining bads earlier found old now tally at left before rest → length left ≡ 0 → Tells now new (listed tally.last) → Tells old new (runs_of is_same_loss 0 (joined_states 0 bads earlier found))
+joining-all bads earlier found old now new tally at (status ∷ left) before rest u none told = absurd (omega (arith, none))
+joining-all bads earlier found old now new tally at [] before rest u none told =
     subst (λ (l : List LostRun). Tells old new l) (sym (ap (runs_of is_same_loss 0) (u.whole ∙ append-nil u.done) ∙ tallied-all is_same_loss is_same-equality u.done u.closed tally.last u.tallied))
     (runs-then old now new u.closed (listed tally.last) u.told told)
 
@@ -155,10 +157,10 @@ ahead-parts a = length-append (replicate a.first.count a.first.had) (marks a.res
 pub ahead-first : (a : Ahead) → a.first.count ≤ length (marks_ahead a)
 ahead-first a = omega (arith, ahead-parts a)
 
-pub losts_ahead-length : (a : Ahead) → length (losts_ahead a) ≡ length (marks_ahead a)
-losts_ahead-length a =
-    length-append (replicate a.first.count a.first.lost) (losts a.rest.now) ∙ ap (λ (n : ℕ). n + length (losts a.rest.now)) (length-replicate {A = Bool} a.first.count a.first.lost)
-    ∙ ap (λ (n : ℕ). a.first.count + n) (losts-length a.rest.now) ∙ sym (ahead-parts a)
+pub statuses_ahead-length : (a : Ahead) → length (statuses_ahead a) ≡ length (marks_ahead a)
+statuses_ahead-length a =
+    length-append (replicate a.first.count (run_status a.first)) (statuses a.rest.now) ∙ ap (λ (n : ℕ). n + length (statuses a.rest.now)) (length-replicate {A = Status} a.first.count (run_status a.first))
+    ∙ ap (λ (n : ℕ). a.first.count + n) (statuses-length a.rest.now) ∙ sym (ahead-parts a)
 
 pub ahead-passed : (n : ℕ) (had : Bool) (old new : List Bool) → old ≡ replicate n had ++ new → length old ≡ n + length new
 ahead-passed n had old new is = ap length is ∙ length-append (replicate n had) new ∙ ap (λ (m : ℕ). m + length new) (length-replicate {A = Bool} n had)

@@ -3,10 +3,11 @@ use Rattle.std.proofs.lemmas.Result.{err_from_is_err_and}
 use Rattle.nbd_protocol.specs.Exports.{export_record}
 use Rattle.stack_rules.specs.Records.{Configuration}
 use Rattle.nbd_server.specs.Premises.{AreBytesOf}
-use Rattle.nbd_server.specs.Transmission.{ReadsExport, reply_data, room_behind}
+use Rattle.nbd_server.specs.Reads.{ReadsExport}
+use Rattle.nbd_server.specs.Transmission.{reply_data, room_behind}
 use Rattle.nbd_server.proofs.ByteLemmas.{ends-unread}
 use Rattle.nbd_server.proofs.FetchLemmas.{bytes-behind}
-use Rattle.nbd_server.proofs.DeliveryLemmas.{read-config}
+use Rattle.nbd_server.proofs.PieceLemmas.{read-config}
 use Rattle.nbd_server.proofs.byte_range.read_ends.Goals as goal
 
 pub returns-in_err-behind-clause-err : goal.returns-in_err-behind-clause-err

@@ -1,11 +1,11 @@
-use Rattle.std.proofs.Common.{◌≡◌, ◌<◌, ◌≤◌, ◌%◌, ◌∙◌, ℕ, List, Ok, ap, arith, drop, length, refl, subst, sym, take}
+use Rattle.std.proofs.Common.{◌≡◌, ◌%◌, ◌∙◌, ℕ, List, Ok, Err, ap, arith, drop, length, refl, subst, sym, take}
 use Rattle.std.proofs.lemmas.Result.{err_from_is_err_and}
 use Rattle.nbd_protocol.specs.Exports.{export_record}
 use Rattle.nbd_protocol.specs.Chunks.{error_at_chunk}
 use Rattle.nbd_server.specs.Delivery.{AreNextBytes}
 use Rattle.nbd_server.specs.Failures.{failure_text, reported_error}
-use Rattle.nbd_server.specs.Status.{touched}
-use Rattle.nbd_server.specs.Transmission.{ReadsExport}
+use Rattle.nbd_server.specs.declared.failure.Failure.{Failure}
+use Rattle.nbd_server.specs.Reads.{ReadsExport}
 use Rattle.nbd_server.proofs.DeliveryLemmas.{lost-stuck, part-size, piece-bytes, piece-lost, piece-put_off, piece-sent, rest-left, sent-stuck}
 use Rattle.nbd_server.proofs.delivery.deliver_piece.Goals as goal
 
@@ -66,24 +66,25 @@ returns-in_ok-say_piece-in-Ok-clause-kept g c = c.in_ok-say_piece-in-Ok.ensures.
 
 -- ---- it wasn't
 
-pub returns-then-sectors-gt1-clause-ok : goal.returns-then-sectors-gt1-clause-ok
-returns-then-sectors-gt1-clause-ok g c =
+pub returns-in-Ok-again-clause-ok : goal.returns-in-Ok-again-clause-ok
+returns-in-Ok-again-clause-ok g c =
     let old = g.W.Write.contents c.args.writer.now.inner in
-    let at = c.at-at.result in
-    let size = c.args.piece.size in
-    let several : 1 < touched at size = omega (arith, c.touched-sectors.ensures, c.if-sectors-gt1.true) in
-    rw (c.again.ensures, c.touched-sectors.ensures)
-    (piece-put_off (export_record c.args.export.now) c.args.delivery c.args.piece.progress c.args.queue.now c.read_piece.new.queue size at c.at-at.ensures c.requires.piece old old c.in-Err.error c.in-Err.ensures.err several refl)
+    let x = c.in-Ok-again.ensures.ok in
+    piece-put_off (export_record c.args.export.now) c.args.delivery c.args.piece.progress c.args.queue.now c.read_piece.new.queue c.args.piece.size c.at-at.result c.at-at.ensures c.requires.piece old old c.in-Err.error c.in-Ok-again.next c.in-Err.ensures.err
+    x.0 x.1 refl
 
 pub returns-in_err-say_error_at-in-Err-clause-err : goal.returns-in_err-say_error_at-in-Err-clause-err
 returns-in_err-say_error_at-in-Err-clause-err g c =
+    let e = export_record c.args.export.now in
+    let w = c.args.queue.now in
+    let w' = c.read_piece.new.queue in
     let old = g.W.Write.contents c.args.writer.now.inner in
     let new = g.W.Write.contents c.say_error_at.new.writer.inner in
     let at = c.at-at.result in
     let size = c.args.piece.size in
-    let few : touched at size ≤ 1 = omega (arith, c.touched-sectors.ensures, c.if-sectors-gt1.false) in
+    let x = c.in-Err-again.ensures.err in
     let p = err_from_is_err_and c.from_residual-in_err-say_error_at-in-Err.result c.from_residual-in_err-say_error_at-in-Err.ensures.1 in
-    rw p.1 (lost-stuck (export_record c.args.export.now) c.args.delivery c.args.piece.progress c.args.queue.now c.read_piece.new.queue size at c.at-at.ensures c.requires.piece old new c.in-Err.error c.in-Err.ensures.err few)
+    rw p.1 (lost-stuck e c.args.delivery c.args.piece.progress w w' size at c.at-at.ensures c.requires.piece old new c.in-Err.error c.in-Err.ensures.err x.0)
 
 pub returns-in_err-say_error_at-in-Err-clause-failed : goal.returns-in_err-say_error_at-in-Err-clause-failed
 returns-in_err-say_error_at-in-Err-clause-failed g c =
@@ -92,13 +93,18 @@ returns-in_err-say_error_at-in-Err-clause-failed g c =
 
 pub returns-in_ok-say_error_at-in-Err-clause-ok : goal.returns-in_ok-say_error_at-in-Err-clause-ok
 returns-in_ok-say_error_at-in-Err-clause-ok g c =
+    let e = export_record c.args.export.now in
+    let w = c.args.queue.now in
+    let w' = c.read_piece.new.queue in
     let old = g.W.Write.contents c.args.writer.now.inner in
     let new = g.W.Write.contents c.say_error_at.new.writer.inner in
     let at = c.at-at.result in
     let size = c.args.piece.size in
-    let few : touched at size ≤ 1 = omega (arith, c.touched-sectors.ensures, c.if-sectors-gt1.false) in
-    let lost = piece-lost (export_record c.args.export.now) c.args.delivery c.args.piece.progress c.args.queue.now c.read_piece.new.queue size at c.at-at.ensures c.requires.piece old new c.in-Err.error c.in-Err.ensures.err few in
-    (error_at_chunk c.args.delivery.cookie at (reported_error c.in-Err.error) (failure_text c.in-Err.error), lost.0, lost.1, rw (c.reported.ensures, c.as_bytes-told.ensures.value, c.of-text.ensures) at c.in_ok-say_error_at-in-Err.ensures.ok)
+    let x = c.in-Err-again.ensures.err in
+    let told = c.in-Err-again.lost in
+    let reads : ReadsExport e w at size (Err told) w' = subst (λ (f : Failure). ReadsExport e w at size (Err f) w') (sym x.1) c.in-Err.ensures.err in
+    let lost = piece-lost e c.args.delivery c.args.piece.progress w w' size at c.at-at.ensures c.requires.piece old new told reads x.0 in
+    (error_at_chunk c.args.delivery.cookie at (reported_error told) (failure_text told), lost.0, lost.1, rw (c.reported.ensures, c.as_bytes-told.ensures.value, c.of-text.ensures) at c.in_ok-say_error_at-in-Err.ensures.ok)
 
 pub returns-in_ok-say_error_at-in-Err-clause-kept : goal.returns-in_ok-say_error_at-in-Err-clause-kept
 returns-in_ok-say_error_at-in-Err-clause-kept g c = c.in_ok-say_error_at-in-Err.ensures.kept

@@ -5,6 +5,7 @@ use Rattle.stack_engine.proofs.lemmas.WritePieceLemmas.{write-none}
 use Rattle.stack_engine.specs.WritePieces.{EachWrite}
 use Rattle.request_queue.specs.AtOnce.{CanBeWritten, IsNextPiece, no_step}
 use Rattle.request_queue.specs.PieceCalls.{none_handed}
+use Rattle.request_queue.specs.Ranges.{most_piece}
 use Rattle.request_queue.proofs.WrittenPieceLemmas.{handed-ends, handed-more, next_part, put-more, put-fails, some-encrypt, steps-more, steps-end}
 use Rattle.request_queue.proofs.at_once.write_pieces.Goals as goal
 
@@ -34,7 +35,7 @@ returns-in-Err-clause-steps g c =
     let b = c.pieces.invariant in
     let end = c.pieces.done + c.piece_bytes.result in
     let size : c.piece_bytes.result ≡ end - c.pieces.done = omega arith in
-    let next = subst (λ (n : ℕ). IsNextPiece c.pieces.stack.config c.args.device.0 (c.args.first + c.pieces.done / 512) (length c.args.bytes.now - c.pieces.done) n) size c.piece_bytes.ensures in
+    let next = subst (λ (n : ℕ). IsNextPiece most_piece c.pieces.stack.config c.args.device.0 (c.args.first + c.pieces.done / 512) (length c.args.bytes.now - c.pieces.done) n) size c.piece_bytes.ensures in
     rw c.piece_fault.ensures
     (steps-end c.args.stack.now c.pieces.stack c.write_piece.new.self c.args.device.0 c.args.first c.args.bytes.now c.pieces.done end b.whole (omega (arith, c.piece_bytes.ensures.some)) (omega (arith, c.piece_bytes.ensures.inside, b.within)) b.can next b.steps c.in-Err.fault
     (record {
@@ -49,7 +50,7 @@ returns-in-Err-clause-handed g c =
     let b = c.pieces.invariant in
     let end = c.pieces.done + c.piece_bytes.result in
     let size : c.piece_bytes.result ≡ end - c.pieces.done = omega arith in
-    let next = subst (λ (n : ℕ). IsNextPiece c.pieces.stack.config c.args.device.0 (c.args.first + c.pieces.done / 512) (length c.args.bytes.now - c.pieces.done) n) size c.piece_bytes.ensures in
+    let next = subst (λ (n : ℕ). IsNextPiece most_piece c.pieces.stack.config c.args.device.0 (c.args.first + c.pieces.done / 512) (length c.args.bytes.now - c.pieces.done) n) size c.piece_bytes.ensures in
     rw c.piece_fault.ensures
     (handed-ends c.args.stack.now c.pieces.stack c.write_piece.new.self c.args.device.0 c.args.first c.args.bytes.now c.pieces.done end b.whole (omega (arith, c.piece_bytes.ensures.some)) (omega (arith, c.piece_bytes.ensures.inside, b.within)) b.can.sectors.whole next b.handed c.in-Err.fault c.in-Err.ensures.handed)
 
@@ -69,7 +70,7 @@ pieces-preserved g c =
     record { piece = c.in-Ok.ensures.piece; any = c.in-Ok.ensures.any; steady = c.in-Ok.ensures.steady } in
     let more : c.pieces.done + 512 ≤ end = omega (arith, c.piece_bytes.ensures.some) in
     let size : c.piece_bytes.result ≡ end - c.pieces.done = omega arith in
-    let next = subst (λ (n : ℕ). IsNextPiece c.pieces.stack.config c.args.device.0 (c.args.first + c.pieces.done / 512) (length c.args.bytes.now - c.pieces.done) n) size c.piece_bytes.ensures in
+    let next = subst (λ (n : ℕ). IsNextPiece most_piece c.pieces.stack.config c.args.device.0 (c.args.first + c.pieces.done / 512) (length c.args.bytes.now - c.pieces.done) n) size c.piece_bytes.ensures in
     let within : end ≤ length c.args.bytes.now = omega (arith, c.piece_bytes.ensures.inside, b.within) in
     record {
       put = put-more c.args.stack.now c.pieces.stack c.write_piece.new.self c.args.device.0 c.args.first c.args.bytes.now c.pieces.done end b.whole more within b.put each;

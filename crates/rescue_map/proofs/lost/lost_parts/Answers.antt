@@ -2,6 +2,7 @@ use Rattle.std.proofs.Common.{◌+◌, ◌≤◌, ◌^◌, ◌++◌, ℕ, false,
 use Rattle.std.proofs.lemmas.List.{at_drop_all, at_drop_more}
 use Rattle.device_adapters.specs.declared.part.Part.{Part}
 use Rattle.rescue_map.specs.declared.map.Run.{Run}
+use Rattle.rescue_map.specs.declared.stage.Stage.TheVariants.{Untried}
 use Rattle.rescue_map.specs.Lost.{lost_from, lost_of}
 use Rattle.rescue_map.specs.Maps.{marks}
 use Rattle.rescue_map.proofs.lemmas.RunLemmas.{length-take, length-within}
@@ -12,13 +13,13 @@ overflow_add-at c =
     let runs : List Run = c.runs-run-items.result.now in
     let i : ℕ = c.loop-run.run-index in
     let few : length (marks runs) ≤ 2 ^ 54 = subst (λ (l : List Run). length (marks l) ≤ 2 ^ 54) (sym c.runs-run-items.ensures.value) c.runs-run-items.ensures.whole.few in
-    omega (arith, few, length-take runs i (record { count = 0; had = false; lost = false }) c.loop-run-test.true, length-within runs (i + 1), c.loop-run.invariant.here)
+    omega (arith, few, length-take runs i (record { count = 0; had = false; lost = false; stage = Untried }) c.loop-run-test.true, length-within runs (i + 1), c.loop-run.invariant.here)
 
 pub loop-run-preserved : goal.loop-run-preserved
 loop-run-preserved c =
     let runs : List Run = c.runs-run-items.result.now in
     let i : ℕ = c.loop-run.run-index in
-    let d : Run = record { count = 0; had = false; lost = false } in
+    let d : Run = record { count = 0; had = false; lost = false; stage = Untried } in
     let run : Run = get_or runs i d in
     let at : ℕ = c.loop-run.at in
     let before : List Part = c.loop-run.parts.items in

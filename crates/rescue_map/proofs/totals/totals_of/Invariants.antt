@@ -5,5 +5,5 @@ use Rattle.rescue_map.proofs.totals.totals_of.Given as goal
 abbrev pub invariant-loop-run : goal.invariant-loop-run
 invariant-loop-run l = record {
   rest : totals_from l.totals (drop l.run-index l.run-items) ≡ map_totals l.run-items;
-  here : l.totals.had + l.totals.lost ≡ length (marks (take l.run-index l.run-items));
+  here : l.totals.had + l.totals.bad + l.totals.left ≡ length (marks (take l.run-index l.run-items));
 }

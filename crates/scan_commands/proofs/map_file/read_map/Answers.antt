@@ -1,11 +1,10 @@
-use Rattle.std.proofs.Common.{false, length, Err, refl, sym, ap, subst, ◌∙◌, arith, inl, inr}
-use Rattle.std.proofs.lemmas.List.{length-replicate}
+use Rattle.std.proofs.Common.{Err, refl, sym, subst, ◌∙◌, arith, inl, inr}
 use Rattle.std.proofs.lemmas.Result.{IfErr-weaker, IfOk-weaker}
 use Rattle.block_device.specs.declared.open_fault.OpenFault.{OpenFault}
 use Rattle.image_files.specs.Opener.{calls}
 use Rattle.scan_commands.specs.declared.rescue_fault.PassFault.{PassFault}
 use Rattle.scan_commands.specs.MapFiles.{IsMapUnread, most_map}
-use Rattle.scan_commands.proofs.MapFileLemmas.{missing-is, unread-told}
+use Rattle.scan_commands.proofs.MapFileLemmas.{missing-is, unread-size, unread-told}
 use Rattle.scan_commands.proofs.map_file.read_map.Goals as goal
 
 pub returns-then-len-gt-MOST_TEXT-clause-err : goal.returns-then-len-gt-MOST_TEXT-clause-err
@@ -28,7 +27,7 @@ returns-then-is_missing-clause-ok g c =
     IfOk-weaker c.new_map.result _ _ (λ map is. inr (record { missing = told; unread = is })) c.new_map.ensures.ok
 
 pub returns-then-is_missing-clause-sectors : goal.returns-then-is_missing-clause-sectors
-returns-then-is_missing-clause-sectors g c = IfOk-weaker c.new_map.result _ _ (λ map is. ap length is.0 ∙ length-replicate c.args.sectors false) c.new_map.ensures.ok
+returns-then-is_missing-clause-sectors g c = IfOk-weaker c.new_map.result _ _ (λ map is. unread-size c.args.sectors map is) c.new_map.ensures.ok
 
 pub returns-then-is_missing-clause-err : goal.returns-then-is_missing-clause-err
 returns-then-is_missing-clause-err g c =

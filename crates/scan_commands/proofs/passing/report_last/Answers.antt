@@ -1,5 +1,4 @@
 use Rattle.std.proofs.Common.{◌≡◌, inl, inr, refl, sym, ap, ◌∙◌}
-use Rattle.rescue_map.specs.declared.totals.Totals.{Totals}
 use Rattle.scan_commands.specs.declared.rescue_fault.PassFault.TheVariants.{NoMemory}
 use Rattle.scan_commands.specs.Passes.{last_kept}
 use Rattle.scan_commands.specs.PassesInTurns.{after_turns, counts_of}
@@ -42,6 +41,6 @@ returns-clause-ok g c =
       made = c.in_ok-made.made;
       found = kept.runs.items;
       reads = reads-kept k c.args.last.phase old _ _ _ c.in_ok-made.made _ kept.runs.items _ (none-kept _ _ c.new-kept.ensures.runs c.new-kept.ensures.refused) (sym c.is_some.ensures ∙ c.if-is_some.false) c.in_ok-made.ensures.ok;
-      told = rw c.as_slice.ensures.value at (rw c.is_again-again.ensures at c.tell_among_bad.ensures);
-      counted = c.counts_of.ensures ∙ ap (λ (t : Totals). counts_of t c.in_ok-made.made.untried) c.totals_of.ensures;
+      told = rw c.as_slice.ensures.value at c.tell_among_bad.ensures;
+      counted = c.counts_of.ensures ∙ ap counts_of c.totals_of.ensures;
     }

@@ -1,11 +1,13 @@
-use Rattle.std.proofs.Common.{◌≡◌, ◌≤◌, ◌<◌, ℕ, suc, IsTrue, length, inl, inr, refl, sym, ap, ◌∙◌, subst, arith}
+use Rattle.std.proofs.Common.{◌≡◌, ◌≤◌, ◌<◌, ℕ, suc, IsTrue, None, true, length, inl, inr, refl, sym, ap, ◌∙◌, subst, arith}
 use Rattle.stack_rules.specs.Names.{mapped, size}
 use Rattle.stack_rules.specs.Records.{Configuration}
 use Rattle.stack_recovery.specs.PassPieces.{Scanned, scanned}
 use Rattle.stack_recovery.specs.Retries.{no_step}
 use Rattle.stack_recovery.proofs.lemmas.StepLemmas.{more-steps}
 use Rattle.scan_commands.specs.MapFiles.{map_path_of}
-use Rattle.scan_commands.specs.PassesInTurns.{IsSilentTurns, after_turns, phase_after}
+use Rattle.scan_commands.specs.declared.phase.Phase.{Phase}
+use Rattle.stack_recovery.specs.Listings.{listed}
+use Rattle.scan_commands.specs.PassesInTurns.{IsSilentTurns, after_turns, pass_from, phase_after}
 use Rattle.scan_commands.specs.Turns.{kept}
 use Rattle.scan_commands.proofs.RetryTurnLemmas.{ended-turns, whole-turns}
 use Rattle.scan_commands.proofs.TurnLemmas.{err-from}
@@ -15,7 +17,7 @@ pub passes-init : goal.passes-init
 passes-init g c = record {
   steps = no_step;
   few = omega arith;
-  left = record { map = c.requires.fits; device = refl; config = refl; same_size = refl; allowed = c.requires.can.allowed };
+  left = record { map = c.requires.fits; device = refl; retries = refl; no_scrape = refl; config = refl; same_size = refl; allowed = c.requires.can.allowed };
 }
 
 pub read_in_turns-requires-clause-device : goal.read_in_turns-requires-clause-device
@@ -45,11 +47,13 @@ passes-preserved g c =
     let next = after_turns c.read_in_turns.new.images c.read_in_turns.new.stack (g.O.BlockDev.state c.read_in_turns.new.out) c.in_ok-read.read.map in
     record {
       steps = more-steps (IsSilentTurns (kept replaces file scan (size c.args.passing.now.stack.config (mapped d)))) _ c.passes.passes _ now next (omega arith) u.steps
-          (_, _, c.in_ok-read.read.untried, c.in_ok-read.read.skip, whole-turns replaces file scan _ _ (phase_after c.passes.passes) _ _ _ _ _ u.left.config c.phase_after.ensures c.in_ok-read.ensures.ok);
+          (_, _, c.in_ok-read.read.skip, whole-turns replaces file scan _ _ (phase_after c.args.passing.now.no_scrape c.passes.passes) _ (λ (p : Phase) (n : ℕ). pass_from p n now (listed None true)) _ _ _ u.left.config c.phase_after-phase.ensures c.in_ok-read.ensures.ok);
       few = omega (arith, c.passes-test.true);
       left = record {
         map = goes.map ∙ ap (λ (x : Configuration). size x (mapped d)) u.left.config;
         device = u.left.device;
+        retries = u.left.retries;
+        no_scrape = u.left.no_scrape;
         config = goes.config ∙ u.left.config;
         same_size = goes.same_size ∙ u.left.same_size;
         allowed = goes.allowed;
@@ -63,12 +67,13 @@ returns-in_err-read-clause-err g c =
     let scan : Scanned = scanned d c.args.passing.now.no_scrape in
     let file = map_path_of c.args.file in
     let replaces = g.I.Images.relations.replaces in
+    let now = after_turns c.passes.images c.passes.passing.stack (g.O.BlockDev.state c.passes.passing.out) c.passes.left in
     err-from c.from_residual.result _ c.in_err-read.field-0.0 c.from_residual.ensures.1 (record {
-      left = after_turns c.passes.images c.passes.passing.stack (g.O.BlockDev.state c.passes.passing.out) c.passes.left;
+      left = now;
       passes = c.passes.passes;
       before = _;
       after = _;
       steps = u.steps;
       few = omega (arith, c.passes-test.true);
-      ends = ended-turns replaces file scan _ _ (phase_after c.passes.passes) _ _ _ _ _ u.left.config c.phase_after.ensures c.in_err-read.ensures.err;
+      ends = ended-turns replaces file scan _ _ (phase_after c.args.passing.now.no_scrape c.passes.passes) _ (λ (p : Phase) (n : ℕ). pass_from p n now (listed None true)) _ _ _ u.left.config c.phase_after-phase.ensures c.in_err-read.ensures.err;
     })

@@ -14,7 +14,7 @@ invariant-passes g l = record {
   steps : Steps (IsSilentTurns (kept g.I.Images.relations.replaces (map_path_of l.fn.file) (scanned l.fn.passing.device.0 l.fn.passing.no_scrape) (size l.fn.passing.stack.config (mapped l.fn.passing.device.0))))
       (after_turns l.fn.images l.fn.passing.stack (g.O.BlockDev.state l.fn.passing.out) l.fn.map) l.passes (after_turns l.images l.passing.stack (g.O.BlockDev.state l.passing.out) l.left);
   few : l.passes ≤ l.retries;
-  left : LeavesPassing g.O.BlockDev.state l.fn.passing l.passing (record { map = l.left; passes = l.passes });
+  left : LeavesPassing g.O.BlockDev.state l.fn.passing l.passing l.left;
 }
 
 abbrev pub decreases-passes : goal.decreases-passes

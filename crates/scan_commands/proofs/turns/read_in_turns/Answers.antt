@@ -1,5 +1,4 @@
-use Rattle.std.proofs.Common.{◌≡◌, ◌+◌, ◌≤◌, true, length, replicate, inl, refl, sym, ap, ◌∙◌, arith}
-use Rattle.rescue_map.specs.Maps.{marks, settled_marks}
+use Rattle.std.proofs.Common.{◌≡◌, ℕ, ◌+◌, ◌≤◌, inl, refl, sym, ap, ◌∙◌, arith}
 use Rattle.stack_rules.specs.Names.{mapped, size}
 use Rattle.stack_rules.specs.Records.{Configuration}
 use Rattle.stack_rules.proofs.lemmas.PassingLemmas.{out_of_memory-more}
@@ -8,9 +7,9 @@ use Rattle.scan_commands.specs.declared.rescue_fault.PassFault.TheVariants.{NoMe
 use Rattle.stack_recovery.specs.PassPieces.{scanned}
 use Rattle.stack_recovery.specs.Recoveries.{sides}
 use Rattle.scan_commands.specs.MapFiles.{map_path_of}
-use Rattle.scan_commands.specs.Turns.{begins, goes_on, is_again, passes, made_map}
-use Rattle.scan_commands.proofs.SpanLemmas.{drop-more, settled-length, spliced-same}
-use Rattle.scan_commands.proofs.TurnLemmas.{ends-as, err-from, turn-config, turn-out, turned-wanted, whole-as}
+use Rattle.scan_commands.specs.Turns.{begins, begun_with, goes_on, made_map, passes}
+use Rattle.scan_commands.proofs.TurnLemmas.{err-from}
+use Rattle.scan_commands.proofs.NextTurnLemmas.{ends-as, turn-config, turn-out, whole-as}
 use Rattle.scan_commands.proofs.turns.read_in_turns.Goals.{then-is_had, else-is_had+in_ok-ended}
 use Rattle.scan_commands.proofs.turns.read_in_turns.Goals as goal
 
@@ -18,9 +17,8 @@ pub turns-init : goal.turns-init
 turns-init g c =
     let all = c.sectors-sectors.ensures ∙ ap (λ (x : Configuration). size x (mapped c.args.d.0)) c.config.ensures.value in
     record {
-      turns = begins;
+      turns = rw (c.min-skip.ensures, c.most_skipped.ensures) begins;
       map = c.requires.fits ∙ sym all;
-      wanted = c.in_ok-maps.ensures.done;
       within = omega arith;
       all = all;
       config = refl;
@@ -28,33 +26,20 @@ turns-init g c =
       allowed = c.requires.allowed;
     }
 
-pub pass_maps-requires : goal.pass_maps-requires
-pass_maps-requires g c = c.requires.fits ∙ sym (c.sectors-sectors.ensures ∙ ap (λ (x : Configuration). size x (mapped c.args.d.0)) c.config.ensures.value)
-
-pub asked-requires-clause-done : goal.asked-requires-clause-done
-asked-requires-clause-done g c =
-    let all = c.sectors-sectors.ensures ∙ ap (λ (x : Configuration). size x (mapped c.args.d.0)) c.config.ensures.value in
-    ap length c.in_ok-maps.ensures.done ∙ settled-length (is_again c.args.kept.phase) c.args.kept.map ∙ c.requires.fits ∙ sym all
-
-pub returns-in_err-maps-clause-err : goal.returns-in_err-maps-clause-err
-returns-in_err-maps-clause-err g c =
-    let all = c.sectors-sectors.ensures ∙ ap (λ (x : Configuration). size x (mapped c.args.d.0)) c.config.ensures.value in
-    err-from c.from_residual.result _ NoMemory c.from_residual.ensures.1
-    (ends-as g.I.Images.relations.replaces (map_path_of c.args.kept.file) c.args.kept.phase (scanned c.args.d.0 c.args.kept.no_scrape) c.sectors-sectors.result _ _ _ c.args.images.now
-    (sides c.args.stack.now (g.O.BlockDev.state c.args.out.now) (g.L.Listing.told c.args.listing.now)) NoMemory all begins (refl, refl, out_of_memory-more 1 largest_allocation (omega arith) c.in_err-maps.ensures.err, inl refl))
-
 pub returns-in_err-wanted-clause-err : goal.returns-in_err-wanted-clause-err
 returns-in_err-wanted-clause-err g c =
     let u = c.turns.invariant in
-    err-from c.from_residual-in_err-wanted.result _ NoMemory c.from_residual-in_err-wanted.ensures.1
-    (ends-as g.I.Images.relations.replaces (map_path_of c.args.kept.file) c.args.kept.phase (scanned c.args.d.0 c.args.kept.no_scrape) c.sectors-sectors.result _ _ _ c.turns.images
+    err-from c.from_residual.result _ NoMemory c.from_residual.ensures.1
+    (ends-as g.I.Images.relations.replaces (map_path_of c.args.kept.file) c.args.kept.phase (scanned c.args.d.0 c.args.kept.no_scrape) c.sectors-sectors.result _
+    (λ (n : ℕ). begun_with c.args.kept.phase n c.args.images.now (sides c.args.stack.now (g.O.BlockDev.state c.args.out.now) (g.L.Listing.told c.args.listing.now)) c.args.kept.map) _ c.turns.images
     (sides c.turns.stack (g.O.BlockDev.state c.turns.out) (g.L.Listing.told c.turns.listing)) NoMemory u.all u.turns (refl, refl, out_of_memory-more 1 largest_allocation (omega arith) c.in_err-wanted.ensures.err, inl refl))
 
 pub returns-in_err-ended-clause-err : goal.returns-in_err-ended-clause-err
 returns-in_err-ended-clause-err g c =
     let u = c.turns.invariant in
     err-from c.from_residual-in_err-ended.result _ c.in_err-ended.field-0.0 c.from_residual-in_err-ended.ensures.1
-    (ends-as g.I.Images.relations.replaces (map_path_of c.args.kept.file) c.args.kept.phase (scanned c.args.d.0 c.args.kept.no_scrape) c.sectors-sectors.result _ _ _ c.take_turn.new.images
+    (ends-as g.I.Images.relations.replaces (map_path_of c.args.kept.file) c.args.kept.phase (scanned c.args.d.0 c.args.kept.no_scrape) c.sectors-sectors.result _
+    (λ (n : ℕ). begun_with c.args.kept.phase n c.args.images.now (sides c.args.stack.now (g.O.BlockDev.state c.args.out.now) (g.L.Listing.told c.args.listing.now)) c.args.kept.map) _ c.take_turn.new.images
     (sides c.take_turn.new.stack (g.O.BlockDev.state c.take_turn.new.out) (g.L.Listing.told c.take_turn.new.listing)) c.in_err-ended.field-0.0 u.all u.turns c.in_err-ended.ensures.err)
 
 pub turns-preserved : goal.turns-preserved
@@ -62,7 +47,7 @@ turns-preserved g c =
     let u = c.turns.invariant in
     let more : c.turns.at + c.min-count.result ≤ c.sectors-sectors.result = omega (arith, c.min-count.ensures, c.turns-test.true) in
     elim c.if-is_had.branch [
-      | then-is_had w ↦ rw (w.images-is, w.stack-is, w.out-is, w.listing-is, w.map-is, w.at-is, w.untried-is, w.skip-is) (record {
+      | then-is_had w ↦ rw (w.images-is, w.stack-is, w.out-is, w.listing-is, w.map-is, w.at-is, w.skip-is) (record {
         turns = passes u.turns (record {
           span = record { first = c.turns.at; count = c.min-count.result };
           next = record {
@@ -73,12 +58,11 @@ turns-preserved g c =
             inside = more;
           };
           runs = c.in_ok-wanted.wanted;
-          asked = c.in_ok-wanted.ensures.ok ∙ spliced-same (record { first = c.turns.at; count = c.min-count.result }) (replicate c.sectors-sectors.result true) (marks c.in_ok-maps.maps.done) (settled_marks (is_again c.args.kept.phase) c.turns.map) u.wanted;
+          asked = c.in_ok-wanted.ensures.ok;
           none = sym c.is_had.ensures ∙ w.if-is_had.true;
           same = refl;
         });
         map = u.map;
-        wanted = drop-more c.turns.at c.min-count.result (marks c.in_ok-maps.maps.done) (settled_marks (is_again c.args.kept.phase) c.turns.map) u.wanted;
         within = more;
         all = u.all;
         config = u.config;
@@ -86,10 +70,9 @@ turns-preserved g c =
         allowed = u.allowed;
       })
       | else-is_had+in_ok-ended w ↦ let t = w.in_ok-ended.ensures.ok in
-          rw (w.images-is, w.stack-is, w.out-is, w.listing-is, w.map-is, w.at-is, w.untried-is, w.skip-is) (record {
+          rw (w.images-is, w.stack-is, w.out-is, w.listing-is, w.map-is, w.at-is, w.skip-is) (record {
             turns = goes_on u.turns t;
             map = w.in_ok-ended.ensures.sectors;
-            wanted = turned-wanted _ _ _ _ _ u.map u.wanted t;
             within = omega (arith, t.here, t.next.inside);
             all = u.all;
             config = turn-config _ _ _ _ t ∙ u.config;
@@ -108,8 +91,9 @@ pub returns-clause-ok : goal.returns-clause-ok
 returns-clause-ok g c =
     let u = c.turns.invariant in
     let end : c.turns.at ≡ c.sectors-sectors.result = omega (arith, u.within, c.turns-test.false) in
-    whole-as g.I.Images.relations.replaces (map_path_of c.args.kept.file) c.args.kept.phase (scanned c.args.d.0 c.args.kept.no_scrape) c.sectors-sectors.result _ c.turns.at _ c.turns.images
-    (sides c.turns.stack (g.O.BlockDev.state c.turns.out) (g.L.Listing.told c.turns.listing)) (made_map c.turns.map c.turns.untried c.turns.skip) u.all end u.turns
+    whole-as g.I.Images.relations.replaces (map_path_of c.args.kept.file) c.args.kept.phase (scanned c.args.d.0 c.args.kept.no_scrape) c.sectors-sectors.result _ c.turns.at
+    (λ (n : ℕ). begun_with c.args.kept.phase n c.args.images.now (sides c.args.stack.now (g.O.BlockDev.state c.args.out.now) (g.L.Listing.told c.args.listing.now)) c.args.kept.map) c.turns.images
+    (sides c.turns.stack (g.O.BlockDev.state c.turns.out) (g.L.Listing.told c.turns.listing)) (made_map c.turns.map c.turns.skip) u.all end u.turns
 
 pub returns-clause-goes_on : goal.returns-clause-goes_on
 returns-clause-goes_on g c =

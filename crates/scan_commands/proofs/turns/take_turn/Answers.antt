@@ -1,19 +1,19 @@
-use Rattle.std.proofs.Common.{arith, ◌≡◌, ◌∙◌, ◌+◌, ◌≤◌, min, inr, ℕ, Bool, true, List, length, replicate, Option, Ok, refl, ap, subst, sym}
+use Rattle.std.proofs.Common.{arith, ◌≡◌, ◌∙◌, ◌+◌, ◌≤◌, min, inr, ℕ, Bool, true, List, length, replicate, refl, ap, subst, sym}
 use Rattle.std.proofs.lemmas.Bool.{false≢true}
 use Rattle.std.proofs.lemmas.List.{length-replicate}
 use Rattle.block_device.specs.Device.{Device}
-use Rattle.rescue_map.specs.Maps.{marks, settled_marks}
+use Rattle.rescue_map.specs.declared.stepping.Step.{Step}
+use Rattle.rescue_map.specs.Maps.{marks}
 use Rattle.rescue_map.specs.MapText.{map_text}
-use Rattle.stack_rules.proofs.lemmas.PassingLemmas.{out_of_memory-more}
-use Rattle.stack_meaning.specs.Memory.{largest_allocation}
+use Rattle.rescue_map.specs.Steps.{stepped_statuses, untaken_marks}
+use Rattle.rescue_map.proofs.lemmas.SpanLemmas.{spliced-length}
+use Rattle.rescue_map.proofs.lemmas.StatusLemmas.{untaken-length}
 use Rattle.stack_recovery.specs.PassPieces.{scanned}
 use Rattle.stack_recovery.specs.Recoveries.{Sides, sides}
 use Rattle.scan_commands.specs.declared.rescue_fault.PassFault.TheVariants.{NoMemory, Output}
 use Rattle.scan_commands.specs.MapFiles.{map_path_of, recovery_ending}
-use Rattle.scan_commands.specs.Turns.{ReadsSectors, is_again, kept, progressed}
-use Rattle.rescue_map.proofs.lemmas.SpanLemmas.{spliced-length}
-use Rattle.scan_commands.proofs.SpanLemmas.{settled-length}
-use Rattle.scan_commands.proofs.TurnLemmas.{err-from, failed-behind, reads-out, reads-unfailed, stops-reading, stops-unwritten}
+use Rattle.scan_commands.specs.Turns.{ReadsSectors, kept, progressed, span_between, step_of}
+use Rattle.scan_commands.proofs.TurnLemmas.{err-from, failed-behind, reads-out, reads-unfailed, stops-reading, stops-unmapped, stops-unwritten}
 use Rattle.scan_commands.proofs.turns.take_turn.Goals as goal
 
 pub read_turn-requires-clause-some : goal.read_turn-requires-clause-some
@@ -21,7 +21,8 @@ read_turn-requires-clause-some g c = omega (arith, c.requires.next.some, c.requi
 
 pub read_turn-requires-clause-fits : goal.read_turn-requires-clause-fits
 read_turn-requires-clause-fits g c =
-    let len : length (settled_marks (is_again c.args.turn.phase) c.args.turn.map.now) ≡ c.args.turn.sectors = settled-length (is_again c.args.turn.phase) c.args.turn.map.now ∙ c.requires.map in
+    let takes = (step_of c.args.turn.phase).takes in
+    let len : length (untaken_marks takes c.args.turn.map.now) ≡ c.args.turn.sectors = untaken-length takes c.args.turn.map.now ∙ c.requires.map in
     ap length c.requires.wanted
     ∙ spliced-length c.args.turn.span c.args.turn.sectors (replicate c.args.turn.sectors true) _ (length-replicate {A = Bool} c.args.turn.sectors true) (omega (arith, len, c.requires.next.inside)) c.requires.next.inside
     ∙ c.requires.all
@@ -29,16 +30,16 @@ read_turn-requires-clause-fits g c =
 pub overflow_sub-count : goal.overflow_sub-count
 overflow_sub-count g c = omega (arith, c.min-at.ensures, c.sectors_of.ensures, c.in_ok-read.ensures.ok.some)
 
-pub left_map-requires-clause-within : goal.left_map-requires-clause-within
-left_map-requires-clause-within g c = omega (arith, c.min-at.ensures, c.sectors_of.ensures, c.in_ok-read.ensures.ok.some)
+pub stepped-requires-clause-within : goal.stepped-requires-clause-within
+stepped-requires-clause-within g c = omega (arith, c.min-at.ensures, c.sectors_of.ensures, c.in_ok-read.ensures.ok.some)
 
-pub left_map-requires-clause-inside : goal.left_map-requires-clause-inside
-left_map-requires-clause-inside g c = omega (arith, c.min-at.ensures, c.sectors_of.ensures, c.in_ok-read.ensures.ok.some, c.requires.next.inside)
+pub stepped-requires-clause-inside : goal.stepped-requires-clause-inside
+stepped-requires-clause-inside g c = omega (arith, c.min-at.ensures, c.sectors_of.ensures, c.in_ok-read.ensures.ok.some, c.requires.next.inside)
 
 pub returns-in_err-read-clause-err : goal.returns-in_err-read-clause-err
 returns-in_err-read-clause-err g c =
     let k = kept g.I.Images.relations.replaces (map_path_of c.args.turn.file) (scanned c.args.d.0 c.args.turn.no_scrape) c.args.turn.sectors in
-    let now = progressed c.args.images.now (sides c.args.stack.now (g.O.BlockDev.state c.args.out.now) (g.L.Listing.told c.args.listing.now)) c.args.turn.map.now c.args.turn.span.first c.args.turn.untried c.args.turn.skip in
+    let now = progressed c.args.images.now (sides c.args.stack.now (g.O.BlockDev.state c.args.out.now) (g.L.Listing.told c.args.listing.now)) c.args.turn.map.now c.args.turn.span.first c.args.turn.skip in
     err-from c.from_residual.result _ (recovery_ending c.in_err-read.field-0.0) c.from_residual.ensures.1 (stops-reading k c.args.turn.phase now c.args.turn.span _ _ _ c.in_err-read.field-0.0 c.requires.next c.requires.wanted c.in_err-read.ensures.err)
 
 pub returns-in_err-sync-clause-err : goal.returns-in_err-sync-clause-err
@@ -69,29 +70,30 @@ pub returns-in_err-map-clause-err : goal.returns-in_err-map-clause-err
 returns-in_err-map-clause-err g c =
     let old : Sides = sides c.args.stack.now (g.O.BlockDev.state c.args.out.now) (g.L.Listing.told c.args.listing.now) in
     let left : Sides = sides c.read_turn.new.stack (g.O.BlockDev.state c.read_turn.new.out) (g.L.Listing.told c.read_turn.new.listing) in
-    err-from c.from_residual-in_err-map.result _ NoMemory c.from_residual-in_err-map.ensures.1 (
-      refl,
-      ap (λ (o : Device). o.failures) c.in_ok-sync.ensures.ok ∙ reads-unfailed c.args.turn.phase _ _ (scanned c.args.d.0 c.args.turn.no_scrape) old _ left c.in_ok-read.ensures.ok.reads,
-      out_of_memory-more 1 largest_allocation (omega arith) c.in_err-map.ensures.err,
-      inr (inr (record {
-        span = c.args.turn.span;
-        end = c.args.turn.span.first + c.args.turn.span.count;
-        next = c.requires.next;
-        left = left;
-        made = c.in_ok-read.read;
-        reads = subst (λ (l : List Bool). ReadsSectors c.args.turn.phase c.args.turn.skip l (scanned c.args.d.0 c.args.turn.no_scrape) old c.in_ok-read.read left) c.requires.wanted c.in_ok-read.ensures.ok.reads;
-        on_medium = ap (λ (o : Device). sides c.read_turn.new.stack o (g.L.Listing.told c.read_turn.new.listing)) c.in_ok-sync.ensures.ok;
-      })),
-    )
+    let k = kept g.I.Images.relations.replaces (map_path_of c.args.turn.file) (scanned c.args.d.0 c.args.turn.no_scrape) c.args.turn.sectors in
+    let now = progressed c.args.images.now old c.args.turn.map.now c.args.turn.span.first c.args.turn.skip in
+    err-from c.from_residual-in_err-map.result _ NoMemory c.from_residual-in_err-map.ensures.1
+    (stops-unmapped k c.args.turn.phase now (sides c.read_turn.new.stack (g.O.BlockDev.state c.sync.new.self) (g.L.Listing.told c.read_turn.new.listing))
+    (ap (λ (o : Device). o.failures) c.in_ok-sync.ensures.ok ∙ reads-unfailed c.args.turn.phase _ _ (scanned c.args.d.0 c.args.turn.no_scrape) old _ left c.in_ok-read.ensures.ok.reads)
+    (record {
+      span = c.args.turn.span;
+      end = c.args.turn.span.first + c.args.turn.span.count;
+      next = c.requires.next;
+      left = left;
+      made = c.in_ok-read.read;
+      reads = subst (λ (l : List Bool). ReadsSectors c.args.turn.phase c.args.turn.skip l (scanned c.args.d.0 c.args.turn.no_scrape) old c.in_ok-read.read left) c.requires.wanted c.in_ok-read.ensures.ok.reads;
+      on_medium = ap (λ (o : Device). sides c.read_turn.new.stack o (g.L.Listing.told c.read_turn.new.listing)) c.in_ok-sync.ensures.ok;
+    })
+    c.in_err-map.ensures.err)
 
 pub returns-in_err-write_map-clause-err : goal.returns-in_err-write_map-clause-err
 returns-in_err-write_map-clause-err g c =
     let k = kept g.I.Images.relations.replaces (map_path_of c.args.turn.file) (scanned c.args.d.0 c.args.turn.no_scrape) c.args.turn.sectors in
     let old : Sides = sides c.args.stack.now (g.O.BlockDev.state c.args.out.now) (g.L.Listing.told c.args.listing.now) in
     let left : Sides = sides c.read_turn.new.stack (g.O.BlockDev.state c.read_turn.new.out) (g.L.Listing.told c.read_turn.new.listing) in
-    let now = progressed c.args.images.now old c.args.turn.map.now c.args.turn.span.first c.args.turn.untried c.args.turn.skip in
+    let now = progressed c.args.images.now old c.args.turn.map.now c.args.turn.span.first c.args.turn.skip in
     err-from c.from_residual-in_err-write_map.result _ c.in_err-write_map.field-0.0 c.from_residual-in_err-write_map.ensures.1
-    (stops-unwritten k c.args.turn.phase now (map_text c.args.turn.file.kind c.args.turn.no_scrape c.tried_before-tried.result c.in_ok-map.map c.args.turn.file.tail) c.write_map.new.images (sides c.read_turn.new.stack (g.O.BlockDev.state c.sync.new.self) (g.L.Listing.told c.read_turn.new.listing)) c.in_err-write_map.field-0.0
+    (stops-unwritten k c.args.turn.phase now (map_text c.args.turn.file.kind c.args.turn.no_scrape c.in_ok-map.map c.args.turn.file.tail) c.write_map.new.images (sides c.read_turn.new.stack (g.O.BlockDev.state c.sync.new.self) (g.L.Listing.told c.read_turn.new.listing)) c.in_err-write_map.field-0.0
     (ap (λ (o : Device). o.failures) c.in_ok-sync.ensures.ok ∙ reads-unfailed c.args.turn.phase _ _ (scanned c.args.d.0 c.args.turn.no_scrape) old _ left c.in_ok-read.ensures.ok.reads)
     (record {
       span = c.args.turn.span;
@@ -119,9 +121,8 @@ returns-clause-ok g c =
       some = omega (arith, c.min-at.ensures, c.sectors_of.ensures, c.in_ok-read.ensures.ok.some, c.requires.next.some);
       few = subst (λ (n : ℕ). length (marks c.in_ok-read.read.map) ≤ n) (sym c.requires.all) c.in_ok-read.ensures.ok.few;
       here = c.min-at.ensures ∙ ap (min (c.args.turn.span.first + c.args.turn.span.count)) c.sectors_of.ensures;
-      map = c.in_ok-map.ensures.marks;
-      bad = c.in_ok-map.ensures.lost;
-      untried = c.saturating_add-untried.ensures;
+      whole = c.in_ok-map.ensures.sectors ∙ sym c.requires.map;
+      map = c.in_ok-map.ensures.ok ∙ ap (λ (s : Step). stepped_statuses s (span_between c.args.turn.span.first c.min-at.result) c.args.turn.map.now c.in_ok-read.read.map) c.step_of-step.ensures;
       skip = refl;
-      written = subst (λ (t : Option ℕ). g.I.Images.relations.replaces c.args.images.now c.args.turn.file.path.now (map_text c.args.turn.file.kind c.args.turn.no_scrape t c.in_ok-map.map c.args.turn.file.tail) (Ok tt) c.write_map.new.images) c.tried_before-tried.ensures c.in_ok-write_map.ensures.ok;
+      written = c.in_ok-write_map.ensures.ok;
     }

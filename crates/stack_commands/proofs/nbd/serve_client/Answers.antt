@@ -5,6 +5,7 @@ use Rattle.stack_rules.specs.Records.{Configuration}
 use Rattle.stack_engine.specs.Stacks.{StackRecord}
 use Rattle.request_queue.specs.World.{World}
 use Rattle.nbd_protocol.specs.Exports.{HasNoExport, IsExport, export_record}
+use Rattle.transfer_commands.specs.Requests.{new_world}
 use Rattle.stack_commands.proofs.OpeningLemmas.{err-from}
 use Rattle.nbd_protocol.proofs.lemmas.ExportLemmas.{only-export}
 use Rattle.stack_commands.proofs.ServeLemmas.{client-served}
@@ -16,7 +17,7 @@ returns-in_err-stack-clause-err g c =
 
 pub returns-in_default-clause-err : goal.returns-in_default-clause-err
 returns-in_default-clause-err g c =
-    let at = c.config.ensures.value ∙ ap (λ (v : StackRecord). v.config) c.stack.ensures ∙ ap (λ (w : World). w.stack.config) c.new-queue.ensures.value in
+    let at = c.config.ensures.value ∙ ap (λ (v : StackRecord). v.config) c.stack.ensures ∙ ap (λ (w : World). w.stack.config) c.new-queue.ensures.value ∙ ap (λ (v : StackRecord). v.config) c.keep_data.ensures in
     let none = subst (λ (n : List ℕ). HasNoExport c.config.result.now n) c.as_bytes.ensures.value c.in_default.ensures.none in
     inl (
       (refl, refl),
@@ -39,7 +40,7 @@ returns-in_err-outcome-clause-err g c =
       log = c.serve_noted-outcome.new.log;
       synced = c.sync_and_close-synced.result;
       served = client-served _ c.open_loaded.new.images _ c.in_ok-stack.stack c.new-queue.result c.serve_noted-outcome.new.queue e _ c.serve_noted-outcome.new.log _ _
-          c.in_ok-stack.ensures.ok c.new-queue.ensures.value (subst (λ (x : Configuration). IsExport x e) at c.in-Some.ensures.some.0) named c.in_err-outcome.ensures.served (rw c.into_stack.ensures at c.sync_and_close-synced.ensures);
+          c.in_ok-stack.ensures.ok (c.new-queue.ensures.value ∙ ap new_world c.keep_data.ensures) (subst (λ (x : Configuration). IsExport x e) at c.in-Some.ensures.some.0) named c.in_err-outcome.ensures.served (rw c.into_stack.ensures at c.sync_and_close-synced.ensures);
       is = refl;
       written = λ is. c.in_err-outcome.ensures.writer.failed (ap Some is);
     })))
@@ -55,7 +56,7 @@ returns-in_err-synced-clause-err g c =
       (
         _,
         client-served _ c.open_loaded.new.images _ c.in_ok-stack.stack c.new-queue.result c.serve_noted-outcome.new.queue e _ c.serve_noted-outcome.new.log _ _
-            c.in_ok-stack.ensures.ok c.new-queue.ensures.value (subst (λ (x : Configuration). IsExport x e) at c.in-Some.ensures.some.0) named c.in_ok-outcome.ensures.served (rw c.into_stack.ensures at c.in_err-synced.ensures),
+            c.in_ok-stack.ensures.ok (c.new-queue.ensures.value ∙ ap new_world c.keep_data.ensures) (subst (λ (x : Configuration). IsExport x e) at c.in-Some.ensures.some.0) named c.in_ok-outcome.ensures.served (rw c.into_stack.ensures at c.in_err-synced.ensures),
       ),
     ))))
 
@@ -69,7 +70,7 @@ returns-then-tally-eq0-clause-ok g c =
       (
         _,
         client-served _ c.open_loaded.new.images _ c.in_ok-stack.stack c.new-queue.result c.serve_noted-outcome.new.queue e _ c.serve_noted-outcome.new.log _ _
-            c.in_ok-stack.ensures.ok c.new-queue.ensures.value (subst (λ (x : Configuration). IsExport x e) at c.in-Some.ensures.some.0) named c.in_ok-outcome.ensures.served (rw c.into_stack.ensures at c.in_ok-synced.ensures),
+            c.in_ok-stack.ensures.ok (c.new-queue.ensures.value ∙ ap new_world c.keep_data.ensures) (subst (λ (x : Configuration). IsExport x e) at c.in-Some.ensures.some.0) named c.in_ok-outcome.ensures.served (rw c.into_stack.ensures at c.in_ok-synced.ensures),
       ),
     )
 
@@ -86,7 +87,7 @@ returns-clause-err g c =
         (
           _,
           client-served _ c.open_loaded.new.images _ c.in_ok-stack.stack c.new-queue.result c.serve_noted-outcome.new.queue e _ c.serve_noted-outcome.new.log _ _
-              c.in_ok-stack.ensures.ok c.new-queue.ensures.value (subst (λ (x : Configuration). IsExport x e) at c.in-Some.ensures.some.0) named c.in_ok-outcome.ensures.served (rw c.into_stack.ensures at c.in_ok-synced.ensures),
+              c.in_ok-stack.ensures.ok (c.new-queue.ensures.value ∙ ap new_world c.keep_data.ensures) (subst (λ (x : Configuration). IsExport x e) at c.in-Some.ensures.some.0) named c.in_ok-outcome.ensures.served (rw c.into_stack.ensures at c.in_ok-synced.ensures),
         ),
       ),
     )))

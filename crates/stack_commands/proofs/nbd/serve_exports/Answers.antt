@@ -8,6 +8,7 @@ use Rattle.stack_engine.specs.Stacks.{StackRecord}
 use Rattle.nbd_protocol.specs.Exports.{export_records}
 use Rattle.nbd_protocol.specs.Offers.{AreNames, Offers}
 use Rattle.nbd_protocol.proofs.lemmas.ExportLemmas.{offers-exports}
+use Rattle.transfer_commands.specs.Requests.{new_world}
 use Rattle.stack_commands.proofs.OpeningLemmas.{err-from}
 use Rattle.stack_commands.proofs.ServeLemmas.{exports-served}
 use Rattle.stack_commands.proofs.nbd.serve_exports.Goals as goal
@@ -50,7 +51,7 @@ returns-in_err-outcome-clause-err g c =
       log = c.serve_noted-outcome.new.log;
       synced = c.sync_and_close-synced.result;
       served = exports-served _ c.open_loaded.new.images _ _ c.in_ok-stack.stack c.new-queue.result c.serve_noted-outcome.new.queue names es _ c.serve_noted-outcome.new.log _ _
-          c.in_ok-stack.ensures.ok c.new-queue.ensures.value named offered c.in_err-outcome.ensures.served (rw c.into_stack.ensures at c.sync_and_close-synced.ensures);
+          c.in_ok-stack.ensures.ok (c.new-queue.ensures.value ∙ ap new_world c.keep_data.ensures) named offered c.in_err-outcome.ensures.served (rw c.into_stack.ensures at c.sync_and_close-synced.ensures);
       is = refl;
       written = λ is. c.in_err-outcome.ensures.writer.failed (ap Some is);
     })))
@@ -70,7 +71,7 @@ returns-in_err-synced-clause-err g c =
       (
         _,
         exports-served _ c.open_loaded.new.images _ _ c.in_ok-stack.stack c.new-queue.result c.serve_noted-outcome.new.queue names es _ c.serve_noted-outcome.new.log _ _
-            c.in_ok-stack.ensures.ok c.new-queue.ensures.value named offered c.in_ok-outcome.ensures.served (rw c.into_stack.ensures at c.in_err-synced.ensures),
+            c.in_ok-stack.ensures.ok (c.new-queue.ensures.value ∙ ap new_world c.keep_data.ensures) named offered c.in_ok-outcome.ensures.served (rw c.into_stack.ensures at c.in_err-synced.ensures),
       ),
     ))))
 
@@ -88,7 +89,7 @@ returns-then-tally-eq0-clause-ok g c =
       (
         _,
         exports-served _ c.open_loaded.new.images _ _ c.in_ok-stack.stack c.new-queue.result c.serve_noted-outcome.new.queue names es _ c.serve_noted-outcome.new.log _ _
-            c.in_ok-stack.ensures.ok c.new-queue.ensures.value named offered c.in_ok-outcome.ensures.served (rw c.into_stack.ensures at c.in_ok-synced.ensures),
+            c.in_ok-stack.ensures.ok (c.new-queue.ensures.value ∙ ap new_world c.keep_data.ensures) named offered c.in_ok-outcome.ensures.served (rw c.into_stack.ensures at c.in_ok-synced.ensures),
       ),
     )
 
@@ -109,7 +110,7 @@ returns-clause-err g c =
         (
           _,
           exports-served _ c.open_loaded.new.images _ _ c.in_ok-stack.stack c.new-queue.result c.serve_noted-outcome.new.queue names es _ c.serve_noted-outcome.new.log _ _
-              c.in_ok-stack.ensures.ok c.new-queue.ensures.value named offered c.in_ok-outcome.ensures.served (rw c.into_stack.ensures at c.in_ok-synced.ensures),
+              c.in_ok-stack.ensures.ok (c.new-queue.ensures.value ∙ ap new_world c.keep_data.ensures) named offered c.in_ok-outcome.ensures.served (rw c.into_stack.ensures at c.in_ok-synced.ensures),
         ),
       ),
     )))

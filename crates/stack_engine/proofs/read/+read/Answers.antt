@@ -5,15 +5,15 @@ use Rattle.std.proofs.lemmas.Slice.Eq.{bytes_eq-Decides}
 use Rattle.std.proofs.lemmas.Bool.{eqb-true}
 use Rattle.std.proofs.lemmas.Slice.{take-put_mid}
 use Rattle.std.proofs.lemmas.List.{with_items_is}
-use Rattle.std.specs.Prelude.{option_map, is_ok}
+use Rattle.std.specs.Prelude.{option_map, is_ok, IfSome}
 use Rattle.block_device.specs.Call.{DeviceDoes, Read}
 use Rattle.stack_engine.specs.LeafCalls.{IsLeafCall}
 use Rattle.stack_engine.specs.SectorCalls.{Gives, zeros_read, fails_read}
 use Rattle.stack_engine.proofs.ReadCallLemmas.{reads-none}
-use Rattle.stack_engine.specs.SectorCalls.{LeadsTo, ReadsBy, place_at, block_full, block_of, data_of, expected_hash, hash_full, hash_kept, hash_of, last_bytes, one_block, one_ignored, place_in, way_full, whole_data}
+use Rattle.stack_engine.specs.SectorCalls.{LeadsTo, ReadsBy, place_at, block_full, block_of, data_of, expected_hash, hash_full, hash_kept, hash_of, last_bytes, one_asked, one_block, one_ignored, place_in, spare_of, way_had, way_of, way_full, whole_data}
 use Rattle.stack_engine.specs.Healing.{healed_result}
-use Rattle.stack_engine.specs.ReadSteps.{block_answer, expected_in}
-use Rattle.stack_engine.proofs.WayCallLemmas.{block-ungiven, chain-given, checked-given, data-given, data-short, data-ungiven, differs-given, hash-given, hash-ungiven, last-push, leads-begin, one-given, one-healed, place-same, place-turn, reads-expected, way-ended, way-led, way-short, way-unled}
+use Rattle.stack_engine.specs.ReadSteps.{IsKeptData, block_answer, expected_in}
+use Rattle.stack_engine.proofs.WayCallLemmas.{block-ungiven, one-asked, one-kept, chain-given, checked-given, data-given, data-short, data-ungiven, differs-given, hash-given, last-push, leads-begin, one-given, one-healed, place-same, place-turn, reads-expected, way-ended, way-had, way-healed, way-led, way-short, way-ungiven, way-unled}
 use Rattle.stack_engine.proofs.BlockCallLemmas.{BlocksUpTo, blocks-begin, blocks-given, blocks-short, blocks-unled, blocks-way, gives-at, path-last, row-asked, row-begins, row-given, row-some, row-stays, row-ungiven, together-at}
 use Rattle.stack_engine.proofs.SectorCallLemmas.{leaf-given, gives-begin, run-given, run-ungiven, all-given, units-given, units-ungiven, part-given, part-ungiven}
 use Rattle.std.specs.Vec.{with_items}
@@ -32,8 +32,9 @@ use Rattle.stack_lines.specs.declared.source.Source.{Source}
 use Rattle.stack_lines.specs.declared.source.Source.TheVariants.{Below, Units, UnitPart, Block, Zeros}
 use Rattle.stack_meaning.specs.Found.{Entry, FoundRecord, found_entry}
 use Rattle.stack_lines.specs.declared.tree.Extent.{Extent}
-use Rattle.stack_meaning.specs.Blocks.{hash_sectors, hash_start, next_digest}
-use Rattle.stack_lines.specs.Walks.{block_in, checked_expected, data_expected, GetsChain, IsWalked}
+use Rattle.stack_meaning.specs.Blocks.{hash_sectors, next_digest}
+use Rattle.stack_meaning.specs.Spares.{verified_blocks}
+use Rattle.stack_lines.specs.Walks.{block_in, data_expected, spare_expected, way_expected, GetsChain, HasVerifiedBlock, IsWalked}
 use Rattle.stack_meaning.specs.declared.fault.IoFault.{IoFault}
 use Rattle.stack_meaning.specs.Places.{place_of, run_expected, LeafRead}
 use Rattle.stack_meaning.specs.Reading.{Gets, buffer_answer}
@@ -42,15 +43,15 @@ use Rattle.stack_engine.proofs.StackLemmas.{stack-later}
 use Rattle.stack_meaning.proofs.lemmas.LoadedLemmas.{size-small}
 use Rattle.stack_lines.proofs.lemmas.SourceLemmas.{served-depth, below_of, leaf_of, empty_read, zeros_of, fails_of}
 use Rattle.stack_lines.proofs.lemmas.VerityLineLemmas.{data-whole, hash-whole, hash-depth, data-depth}
-use Rattle.stack_engine.proofs.PathBlockLemmas.{bytes, hash_place_of, hash-lies, block_there, checked_as, place_key, hash_read, hash_failed, data_had, data_failed}
+use Rattle.stack_engine.proofs.PathBlockLemmas.{bytes, kept-data-had, data_key_place, checked_as, place_key, hash_read, hash_failed, data_had, data_failed, way-answered, way-read, way-settled, way-verified}
 use Rattle.stack_meaning.specs.Memory.{largest_allocation}
-use Rattle.stack_engine.proofs.CachedLemmas.{cached-hit, cached-small, keeps-noted, noted_key, keeps-kept, keeps-found}
+use Rattle.stack_engine.proofs.CachedLemmas.{cached-hit, cached-small, keeps-noted, noted_key, keeps-kept, keeps-found, keeps-last, last-small}
 use Rattle.stack_lines.proofs.lemmas.StandingLemmas.{named-inside, knows-all}
 use Rattle.stack_engine.proofs.BlockPartLemmas.{kept_at, kept_for, kept_length, contains_at, part-room, part_found, part_walked, part_err, part_full, block-at, block-meets}
 use Rattle.stack_lines.specs.declared.source.CryptPart.{CryptPart}
 use Rattle.stack_lines.specs.Sources.{AreUnits}
 use Rattle.stack_engine.proofs.lemmas.BlockLemmas.{distinct-push, length-content}
-use Rattle.stack_engine.proofs.lemmas.WalkLemmas.{checked_ok, checked_err, checked_differs, data_zeros, data_read, data_answered, walk_full}
+use Rattle.stack_engine.proofs.lemmas.WalkLemmas.{checked_ok, checked_err, checked_differs, data_zeros, data_read, data_answered, data_settled, walk_full}
 use Rattle.stack_meaning.proofs.lemmas.LeafLemmas.{all-whole}
 use Rattle.stack_meaning.specs.Units.{per_unit, decrypted_units}
 use Rattle.stack_lines.proofs.lemmas.UnitSourceLemmas.{units-bytes, whole-units, part-read, part-failed, units-read, units-failed}
@@ -58,8 +59,9 @@ use Rattle.std.proofs.lemmas.List.{take_more, get_or_default}
 use Rattle.std.proofs.lemmas.List.Elements.{All-take}
 use Rattle.verified_cache.specs.Cache.{CachedBlock}
 use Rattle.stack_lines.specs.AtOnce.{CanGo}
-use Rattle.stack_lines.specs.Caches.{IsCached}
-use Rattle.stack_engine.proofs.PathLemmas.{path-read, path-hit, path-put, path-down, path-failed, path-stopped, path-ended, path-whole, walk-begins, no_block}
+use Rattle.stack_engine.specs.Held.{IsHeld}
+use Rattle.stack_engine.proofs.PathLemmas.{held-small, path-read, path-hit, path-put, path-down, path-failed, path-stopped, path-ended, path-whole, walk-begins, way-bytes, way-fault, way-key, no_block}
+use Rattle.stack_engine.proofs.LostBlockLemmas.{data-verified}
 use Rattle.stack_engine.proofs.BlocksAtLemmas.{blocks-at}
 use Rattle.stack_engine.proofs.BlocksLemmas.{blocks-meet}
 use Rattle.stack_engine.proofs.NextBlockLemmas.{sub-same, digest-count, blocks-long, way-whole, block-begin, far, row-next, row-fails, row-ahead, checked-none, turn-at, way-fails, way-costs, row-at, row-got, row-costs, put-at, row-covers, checked-as, checked-all}
@@ -73,7 +75,7 @@ use Rattle.stack_meaning.proofs.lemmas.LeafListLemmas.{AreRead-none}
 use Rattle.stack_engine.proofs.SpentLemmas.{IsCutBehind, block-spent, had-spent}
 use Rattle.stack_lines.proofs.lemmas.TouchLemmas.{data-within}
 use Rattle.stack_lines.proofs.lemmas.AskLemmas.{asks-less, asks-none, asks-then, asks-as, asks-up}
-use Rattle.stack_engine.proofs.TouchedLemmas.{extent-touched, same-within, hash-touched, hash-within-device, data-touched}
+use Rattle.stack_engine.proofs.TouchedLemmas.{extent-touched, same-within, hash-touched, data-touched}
 use Rattle.stack_engine.specs.Backings.{did, backing_of, served}
 use Rattle.stack_engine.specs.Restored.{serving}
 use Rattle.stack_engine.specs.ReadSteps.{run_beneath, IsReadStep}
@@ -539,21 +541,17 @@ read_checked-returns-else-eq-clause-reads g t c =
 
 -- ---- the walk
 
-pub walk-hash_key-key-requires : goal.walk-hash_key-key-requires
-walk-hash_key-key-requires g t c = subst (λ (k : ℕ). c.args.index < k) (sym (ap (λ (s : ShapeRecord). s.blocks) c.requires.block.lies.shape_is)) c.requires.block.there
+pub way_block-hash_key-key-requires : goal.way_block-hash_key-key-requires
+way_block-hash_key-key-requires g t c = subst (λ (k : ℕ). c.args.wanted.now.block < k) (sym (ap (λ (s : ShapeRecord). s.blocks) c.requires.block.lies.shape_is)) c.requires.block.there
 
-pub walk-hash_block-requires : goal.walk-hash_block-requires
-walk-hash_block-requires g t c κs within =
+pub walk-way_block-requires : goal.walk-way_block-requires
+walk-way_block-requires g t c κs within =
     let config = c.args.config.now in
-    let extent = c.hash_extent-extent in
-    let deep = hash-depth config c.args.verity.now c.args.tree.now c.requires.stack.sound.loaded c.requires.block.lies in
-    let same : depth config extent.result.lower ≡ depth config c.args.tree.now.hash = ap (λ (e : Extent). depth config e.lower) extent.ensures.value in
-    let key = place_key config c.args.verity.now c.args.tree.now _ c.args.index c.hash_key-key.result extent.result c.requires.block.lies c.hash_key-key.ensures extent.ensures in
-    (omega (arith, deep, same), (within, (stack-later config c.loop-level.invariant.walked.moved.moved.fixed c.requires.stack c.loop-level.invariant.cached, key)))
+    let low : c.loop-level.level - 1 < levels (tree_of c.args.verity.now) = omega (arith, c.loop-level.invariant.walked.count, c.loop-level-test.true) in
+    (omega arith, (within, (stack-later config c.loop-level.invariant.walked.moved.moved.fixed c.requires.stack c.loop-level.invariant.cached, (c.requires.block, low))))
 
 pub walk-returns-in-Err-clause-reads : goal.walk-returns-in-Err-clause-reads
-walk-returns-in-Err-clause-reads g t c =
-    hash_failed c.args.config.now c.args.verity.now c.args.tree.now c.args.index c.requires.stack.sound.loaded c.requires.block.lies c.loop-level.level (c.loop-level.level - 1) (omega (arith, c.loop-level-test.true)) c.loop-level.invariant.walked c.hash_extent-extent.result c.hash_extent-extent.ensures c.in-Err.first c.in-Err.ensures.reads
+walk-returns-in-Err-clause-reads g t c = hash_failed c.args.config.now c.args.verity.now c.args.tree.now c.args.index c.requires.stack.sound.loaded c.requires.block.lies c.loop-level.level (c.loop-level.level - 1) (omega (arith, c.loop-level-test.true)) c.loop-level.invariant.walked c.in-Err.first c.in-Err.ensures.reads
 
 pub walk-digest_in-expected-requires : goal.walk-digest_in-expected-requires
 walk-digest_in-expected-requires g t c =
@@ -561,15 +559,14 @@ walk-digest_in-expected-requires g t c =
     let tree = c.args.tree.now in
     let is = c.requires.block.lies in
     let size = hash-whole c.args.config.now tree.device.0 tree.line v c.requires.stack.sound.loaded is.is in
-    let sectors : c.hash_extent-extent.result.sectors ≡ hash_sectors v = ap (λ (e : Extent). e.sectors) c.hash_extent-extent.ensures.value in
-    let len : length c.as_slice.result.now ≡ 512 * c.hash_extent-extent.result.sectors = ap (λ (l : List ℕ). length l) c.as_slice.ensures.value ∙ c.in-Ok.ensures.reads.may.0 in
+    let len : length c.as_slice.result.now ≡ 512 * hash_sectors v = ap (λ (l : List ℕ). length l) c.as_slice.ensures.value ∙ c.in-Ok.ensures.reads.may.0 in
     let block : tree.shape.hash_block ≡ v.hash_block = ap (λ (t : ShapeRecord). t.hash_block) is.shape_is in
-    omega (arith, len, sectors, size.whole, block, c.slot_on_path.ensures.inside)
+    omega (arith, len, size.whole, block, c.slot_on_path.ensures.inside)
 
 pub walk-returns-in-Err-push-clause-reads : goal.walk-returns-in-Err-push-clause-reads
 walk-returns-in-Err-push-clause-reads g t c =
     walk_full (block_in c.args.config.now c.args.verity.now c.args.index) (c.loop-level.level - 1) (1, omega arith, c.in-Err-push.ensures.err.1)
-    (hash_read c.args.config.now c.args.verity.now c.args.tree.now c.args.index c.requires.stack.sound.loaded c.requires.block.lies c.loop-level.level (c.loop-level.level - 1) (omega (arith, c.loop-level-test.true)) c.loop-level.invariant.walked c.hash_extent-extent.result c.hash_extent-extent.ensures c.in-Ok.block c.in-Ok.ensures.reads)
+    (hash_read c.args.config.now c.args.verity.now c.args.tree.now c.args.index c.requires.stack.sound.loaded c.requires.block.lies c.loop-level.level (c.loop-level.level - 1) (omega (arith, c.loop-level-test.true)) c.loop-level.invariant.walked c.in-Ok.block c.in-Ok.ensures.reads)
 
 pub walk-loop-level-preserved : goal.walk-loop-level-preserved
 walk-loop-level-preserved g t c =
@@ -581,9 +578,9 @@ walk-loop-level-preserved g t c =
     let level : ℕ = c.loop-level.level - 1 in
     let path = map bytes c.loop-level.path.items in
     let old = map state c.args.backing.now.devices.items in
-    let new = map state c.hash_block.new.backing.devices.items in
+    let new = map state c.way_block.new.backing.devices.items in
     let block = c.in-Ok.block in
-    let down = hash_read c.args.config.now c.args.verity.now c.args.tree.now c.args.index c.requires.stack.sound.loaded c.requires.block.lies c.loop-level.level (c.loop-level.level - 1) (omega (arith, c.loop-level-test.true)) c.loop-level.invariant.walked c.hash_extent-extent.result c.hash_extent-extent.ensures block c.in-Ok.ensures.reads in
+    let down = hash_read c.args.config.now c.args.verity.now c.args.tree.now c.args.index c.requires.stack.sound.loaded c.requires.block.lies c.loop-level.level (c.loop-level.level - 1) (omega (arith, c.loop-level-test.true)) c.loop-level.invariant.walked block c.in-Ok.ensures.reads in
     let expected : c.digest_in-expected.result ≡ next_digest v level index block.items =
     c.digest_in-expected.ensures ∙ ap (λ (b : List ℕ). digest_in b c.slot_on_path.result) c.as_slice.ensures.value
     ∙ ap (digest_in block.items) (c.slot_on_path.ensures.value ∙ ap (λ (t : ShapeRecord). slot t (ancestor t level index)) c.requires.block.lies.shape_is) in
@@ -592,11 +589,11 @@ walk-loop-level-preserved g t c =
       walked = subst (λ (p : List (List ℕ)). IsWalked b level c.digest_in-expected.result p old new) (sym longer)
           (subst (λ (e : List ℕ). IsWalked b level e (path ++ (block.items ∷ [])) old new) (sym expected) down);
       cached = record { capacity = c.in-Ok.ensures.cached.capacity ∙ c.loop-level.invariant.cached.capacity; sound = c.in-Ok.ensures.cached.sound };
-      touches = asks-then c.loop-level.invariant.touches (asks-as (Ok tt) tt (λ failures. refl) (hash-touched c.args.config.now v tree c.requires.stack.sound.loaded c.requires.block.lies c.hash_extent-extent.result c.hash_extent-extent.ensures c.in-Ok.ensures.touches));
+      touches = asks-then c.loop-level.invariant.touches (asks-as (Ok tt) tt (λ failures. refl) c.in-Ok.ensures.touches);
       given = (
         block.items,
-        subst (λ (e : List ℕ). LeadsTo (DeviceDoes g.D.BlockDev.state g.D.BlockDev.does) c.args.config.now (whole_data (place_in v tree index) one_block) (data_of (place_in v tree index) level e block.items one_block) (served c.args.backing.now) (served c.hash_block.new.backing)) (sym expected)
-            (way-led c.loop-level.level (c.loop-level.level - 1) block.items (omega (arith, c.loop-level-test.true)) c.loop-level.invariant.given.1 (reads-expected hash_of (ap (λ (e : Extent). expected_in e v.salt c.loop-level.expected) c.hash_extent-extent.ensures.value) c.in-Ok.ensures.given)),
+        subst (λ (e : List ℕ). LeadsTo (DeviceDoes g.D.BlockDev.state g.D.BlockDev.does) c.args.config.now (whole_data (place_in v tree index) (one_asked c.args.part)) (data_of (place_in v tree index) level e block.items (one_asked c.args.part)) (served c.args.backing.now) (served c.way_block.new.backing)) (sym expected)
+            (way-led c.loop-level.level (c.loop-level.level - 1) block.items (omega (arith, c.loop-level-test.true)) c.loop-level.invariant.given.1 c.in-Ok.ensures.given),
       );
     }
 
@@ -626,22 +623,41 @@ read_data-returns-in-Ok-clause-reads g t c =
     let config = c.args.config.now in
     let tree = c.args.tree.now in
     let size = data-whole config tree.device.0 tree.line v c.requires.stack.sound.loaded c.requires.block.lies.is in
-    data_zeros bytes (block_in config v c.args.index) c.args.expected.now (map g.D.BlockDev.state c.args.backing.now.devices.items) c.in-Ok.block size.whole (sym c.is_ignored.ensures ∙ c.if-is_ignored.true) c.in-Ok.ensures.ok
+    data_zeros bytes (block_in config v c.args.wanted.now.block) c.args.wanted.now.digest (map g.D.BlockDev.state c.args.backing.now.devices.items) c.in-Ok.block size.whole (sym c.is_ignored.ensures ∙ c.if-is_ignored.true) c.in-Ok.ensures.ok
 
-pub read_data-read_checked-requires : goal.read_data-read_checked-requires
-read_data-read_checked-requires g t c κs within =
+pub read_data-returns-in-Err-kept_data-clause-reads : goal.read_data-returns-in-Err-kept_data-clause-reads
+read_data-returns-in-Err-kept_data-clause-reads g t c = record {
+  moved = AreRead-none _ (map g.D.BlockDev.state c.args.backing.now.devices.items);
+  may = c.in-Err-kept_data.ensures.err largest_allocation (last-small c.args.config.now c.requires.stack.sound.loaded (map g.D.BlockDev.state c.args.backing.now.devices.items) c.args.backing.now.cache.last c.requires.stack.cached.last);
+  exact = λ sure. tt;
+}
+
+pub read_data-returns-in-Ok-Some-clause-reads : goal.read_data-returns-in-Ok-Some-clause-reads
+read_data-returns-in-Ok-Some-clause-reads g t c =
+    kept-data-had c.args.config.now c.args.verity.now c.args.tree.now c.args.wanted.now c.requires.stack.sound.loaded c.requires.block.lies c.requires.block.there (map g.D.BlockDev.state c.args.backing.now.devices.items) c.args.backing.now.cache c.requires.stack.cached (sym c.is_ignored.ensures ∙ c.if-is_ignored.false) c.in-Ok-Some.block
+    (subst (λ (o : Option (Vec ℕ Global)). IfSome o (λ block. IsKeptData c.args.tree.now c.args.wanted.now c.args.backing.now.cache.last block.items)) c.in-Ok-Some.field-0-is c.in-Ok-Some.ensures.answer)
+
+pub fetch_data-read_checked-requires : goal.fetch_data-read_checked-requires
+fetch_data-read_checked-requires g t c κs within =
     let config = c.args.config.now in
     let extent = c.data_extent-extent in
     let deep = data-depth config c.args.verity.now c.args.tree.now c.requires.stack.sound.loaded c.requires.block.lies in
     let same : depth config extent.result.lower ≡ depth config c.args.tree.now.data = ap (λ (e : Extent). depth config e.lower) extent.ensures.value in
     (omega (arith, deep, same), (within, (c.requires.stack, extent.ensures.lies)))
 
-pub read_data-returns-in-Ok-read_checked-clause-reads : goal.read_data-returns-in-Ok-read_checked-clause-reads
-read_data-returns-in-Ok-read_checked-clause-reads g t c =
+pub fetch_data-returns-in-Ok-clause-cached : goal.fetch_data-returns-in-Ok-clause-cached
+fetch_data-returns-in-Ok-clause-cached g t c =
+    let config = c.args.config.now in
+    let key = data_key_place config c.args.verity.now c.args.tree.now c.args.wanted.now.block c.data_key-key.result c.data_extent-extent.result c.requires.block.lies c.data_key-key.ensures c.data_extent-extent.ensures in
+    keeps-last config key bytes c.in-Ok.block c.args.wanted.now.digest c.args.backing.now.cache c.read_checked.new.backing.cache _ c.in-Ok.ensures.reads c.in-Ok.ensures.cached
+    c.keep_last-kept.result c.as_slice.result.now c.as_slice.ensures.value c.keep_last-kept.ensures.ok c.keep_last-kept.ensures.err
+
+pub fetch_data-returns-in-Ok-clause-reads : goal.fetch_data-returns-in-Ok-clause-reads
+fetch_data-returns-in-Ok-clause-reads g t c =
     let v = c.args.verity.now in
     let config = c.args.config.now in
-    data_read bytes (block_in config v c.args.index) c.args.expected.now c.in-Ok-read_checked.block (sym c.is_ignored.ensures ∙ c.if-is_ignored.false)
-    (checked_as config v.data c.args.tree.now.data (block_sectors v * c.args.index) (block_sectors v) v.salt c.args.expected.now (Ok c.in-Ok-read_checked.block) c.data_extent-extent.result c.requires.block.lies.on_data c.data_extent-extent.ensures.value c.in-Ok-read_checked.ensures.reads)
+    data_read bytes (block_in config v c.args.wanted.now.block) c.args.wanted.now.digest c.in-Ok.block c.requires.used
+    (checked_as config v.data c.args.tree.now.data (block_sectors v * c.args.wanted.now.block) (block_sectors v) v.salt c.args.wanted.now.digest (Ok c.in-Ok.block) c.data_extent-extent.result c.requires.block.lies.on_data c.data_extent-extent.ensures.value c.in-Ok.ensures.reads)
 
 -- ---- hash blocks
 
@@ -666,7 +682,7 @@ hash_block-returns-in-Ok-Some-clause-cached g t c =
     keeps-found c.args.config.now (map g.D.BlockDev.state c.args.backing.now.devices.items) c.args.key c.args.expected.now c.args.backing.now.cache _ c.copy_of.ensures.leaves c.requires.stack.cached
 
 pub hash_block-cover-requires : goal.hash_block-cover-requires
-hash_block-cover-requires g t c = named-inside c.args.config.now c.requires.stack.sound.loaded c.requires.key.verity.hash c.args.extent.lower c.requires.key.hash
+hash_block-cover-requires g t c = named-inside c.args.config.now c.requires.stack.sound.loaded c.requires.key.verity.hash c.args.extent.lower c.requires.key.on
 
 pub hash_block-returns-in-Ok-clause-cached : goal.hash_block-returns-in-Ok-clause-cached
 hash_block-returns-in-Ok-clause-cached g t c =
@@ -676,7 +692,7 @@ hash_block-returns-in-Ok-clause-cached g t c =
     let read = c.in-Ok.ensures.cached in
     let mid = c.read_checked.new.backing.cache in
     let noted = c.cover.new.self in
-    let is = c.cover.ensures.covered config c.requires.stack.sound.loaded (knows-all config c.requires.stack.sound.loaded mid.beneath read.sound.sets at.verity.hash c.args.extent.lower at.hash) in
+    let is = c.cover.ensures.covered config c.requires.stack.sound.loaded (knows-all config c.requires.stack.sound.loaded mid.beneath read.sound.sets at.verity.hash c.args.extent.lower at.on) in
     let kept = keeps-noted config at (map g.D.BlockDev.state c.read_checked.new.backing.devices.items) c.args.backing.now.cache mid noted c.cover.ensures.rest is (record { capacity = read.capacity ∙ found.capacity; sound = read.sound }) in
     keeps-kept config at bytes c.in-Ok.block c.args.expected.now c.args.backing.now.cache noted _ c.in-Ok.ensures.reads (noted_key config at mid noted is) kept
     c.keep_copy-kept.result c.as_slice.result.now c.as_slice.ensures.value c.keep_copy-kept.ensures.ok c.keep_copy-kept.ensures.err
@@ -686,13 +702,8 @@ hash_block-returns-in-Ok-clause-cached g t c =
 pub path_block-hash_key-key-requires : goal.path_block-hash_key-key-requires
 path_block-hash_key-key-requires g t c = subst (λ (k : ℕ). c.args.wanted.now.block < k) (sym (ap (λ (s : ShapeRecord). s.blocks) c.requires.block.lies.shape_is)) c.requires.block.there
 
-pub path_block-hash_block-requires : goal.path_block-hash_block-requires
-path_block-hash_block-requires g t c κs within =
-    let config = c.args.config.now in
-    let extent = c.hash_extent-extent in
-    let same : depth config extent.result.lower ≡ depth config c.args.tree.now.hash = ap (λ (e : Extent). depth config e.lower) extent.ensures.value in
-    let key = place_key config c.args.verity.now c.args.tree.now _ c.args.wanted.now.block c.hash_key-key.result extent.result c.requires.block.lies c.hash_key-key.ensures extent.ensures in
-    (omega (arith, same), (within, (c.requires.stack, key)))
+pub path_block-way_block-requires : goal.path_block-way_block-requires
+path_block-way_block-requires g t c κs within = (omega arith, (within, (c.requires.stack, (c.requires.block, c.requires.level))))
 
 pub path_block-returns-then-stands-clause-reads : goal.path_block-returns-then-stands-clause-reads
 path_block-returns-then-stands-clause-reads g t c x =
@@ -705,19 +716,13 @@ path_block-returns-then-stands-clause-reads g t c x =
     let there = subst (λ (l : List CachedBlock). w.at < length l) value stands.0 in
     let key = subst (λ (l : List CachedBlock). (get_or l w.at x).key ≡ c.hash_key-key.result) value (stands.1 x).0 in
     let digest = subst (λ (l : List CachedBlock). (get_or l w.at x).digest ≡ w.digest) value (stands.1 x).1 in
-    let at = hash-lies config v tree w.level w.block c.requires.stack.sound.loaded c.requires.block.lies c.requires.block.there c.requires.level in
-    let place = place_key config v tree w.level w.block c.hash_key-key.result (hash_place_of v tree w.level w.block) c.requires.block.lies c.hash_key-key.ensures at in
-    path-hit config place _ c.args.path.now.items w.at x w.digest c.requires.held there key digest
+    path-hit config v tree w.level w.block c.requires.block.lies w.digest _ c.args.path.now.items w.at x c.requires.held there (key ∙ way-key config v tree w.level w.block c.hash_key-key.result c.requires.block.lies c.hash_key-key.ensures) digest
 
 pub path_block-returns-in-Err-clause-reads : goal.path_block-returns-in-Err-clause-reads
-path_block-returns-in-Err-clause-reads g t c x =
-    let got = block_there c.args.config.now c.args.verity.now c.args.tree.now c.args.wanted.now.level c.args.wanted.now.block c.hash_extent-extent.result c.hash_extent-extent.ensures (Err c.in-Err.fault) c.in-Err.ensures.reads in
-    record { moved = got.moved; may = got.may; exact = λ sure. got.exact (record { steady = sure.steady; agrees = sure.agrees }) }
+path_block-returns-in-Err-clause-reads g t c x = way-fault c.args.config.now c.args.verity.now c.args.tree.now c.args.wanted.now.level c.args.wanted.now.block c.requires.block.lies c.args.wanted.now.digest c.in-Err.fault c.in-Err.ensures.reads
 
 pub path_block-returns-in-Err-put-clause-reads : goal.path_block-returns-in-Err-put-clause-reads
-path_block-returns-in-Err-put-clause-reads g t c x =
-    let got = block_there c.args.config.now c.args.verity.now c.args.tree.now c.args.wanted.now.level c.args.wanted.now.block c.hash_extent-extent.result c.hash_extent-extent.ensures (Ok c.in-Ok.bytes) c.in-Ok.ensures.reads in
-    record { moved = got.moved; may = c.in-Err-put.ensures.err; exact = λ sure. tt }
+path_block-returns-in-Err-put-clause-reads g t c x = record { moved = c.in-Ok.ensures.reads.moved; may = c.in-Err-put.ensures.err; exact = λ sure. tt }
 
 pub path_block-returns-in-Ok-put-clause-reads : goal.path_block-returns-in-Ok-put-clause-reads
 path_block-returns-in-Ok-put-clause-reads g t c x =
@@ -726,40 +731,36 @@ path_block-returns-in-Ok-put-clause-reads g t c x =
     let v = c.args.verity.now in
     let w = c.args.wanted.now in
     let old = map state c.args.backing.now.devices.items in
-    let new = map state c.hash_block.new.backing.devices.items in
-    let got = block_there config v c.args.tree.now w.level w.block c.hash_extent-extent.result c.hash_extent-extent.ensures (Ok c.in-Ok.bytes) c.in-Ok.ensures.reads in
+    let new = map state c.way_block.new.backing.devices.items in
     let path = c.args.path.now.items in
     let one : CachedBlock = record { key = c.hash_key-key.result; digest = w.digest; bytes = bytes c.in-Ok.bytes } in
     let front : w.at ≡ length (take w.at path) = sym (length-take-le w.at path c.requires.at) in
     let here : get_or c.put.new.path.items w.at x ≡ one =
     ap (λ (l : List CachedBlock). get_or l w.at x) c.in-Ok-put.ensures.ok ∙ ap (λ (k : ℕ). get_or (take w.at path ++ (one ∷ [])) k x) front ∙ get_or-append_seam (take w.at path) one [] x in
-    subst (λ (b : List ℕ). Gets (checked_expected (λ (block : List ℕ). block) (place_of config c.args.tree.now.hash) (hash_start v w.level w.block) (hash_sectors v) v.salt w.digest) old new (Ok b))
-    (sym (ap (λ (b : CachedBlock). b.bytes) here)) (record { moved = got.moved; may = got.may; exact = λ sure. got.exact (record { steady = sure.steady; agrees = sure.agrees }) })
+    subst (λ (b : List ℕ). Gets (way_expected (λ (block : List ℕ). block) (block_in config v w.block) w.level w.digest) old new (Ok b))
+    (sym (ap (λ (b : CachedBlock). b.bytes) here)) (way-bytes c.args.config.now c.args.verity.now c.args.tree.now c.args.wanted.now.level c.args.wanted.now.block c.requires.block.lies c.args.wanted.now.digest c.in-Ok.bytes c.in-Ok.ensures.reads)
 
 pub path_block-returns-in-Err-clause-held : goal.path_block-returns-in-Err-clause-held
 path_block-returns-in-Err-clause-held g t c = path-read c.args.config.now c.args.path.now.items c.in-Err.ensures.reads.moved c.requires.held
 
 pub path_block-returns-in-Err-put-clause-held : goal.path_block-returns-in-Err-put-clause-held
 path_block-returns-in-Err-put-clause-held g t c =
-    subst (All (IsCached c.args.config.now _)) (sym c.in-Err-put.ensures.same) (All-take (IsCached c.args.config.now _) c.args.wanted.now.at c.args.path.now.items (path-read c.args.config.now c.args.path.now.items c.in-Ok.ensures.reads.moved c.requires.held))
+    subst (All (IsHeld c.args.config.now _)) (sym c.in-Err-put.ensures.same) (All-take (IsHeld c.args.config.now _) c.args.wanted.now.at c.args.path.now.items (path-read c.args.config.now c.args.path.now.items c.in-Ok.ensures.reads.moved c.requires.held))
 
 pub path_block-returns-in-Ok-put-clause-held : goal.path_block-returns-in-Ok-put-clause-held
 path_block-returns-in-Ok-put-clause-held g t c =
-    let key = place_key c.args.config.now c.args.verity.now c.args.tree.now _ c.args.wanted.now.block c.hash_key-key.result c.hash_extent-extent.result c.requires.block.lies c.hash_key-key.ensures c.hash_extent-extent.ensures in
-    subst (All (IsCached c.args.config.now _)) (sym c.in-Ok-put.ensures.ok) (path-put c.args.config.now key bytes c.in-Ok.bytes c.args.wanted.now.digest c.args.path.now.items c.args.wanted.now.at c.requires.held c.in-Ok.ensures.reads)
+    let key = way-key c.args.config.now c.args.verity.now c.args.tree.now c.args.wanted.now.level c.args.wanted.now.block c.hash_key-key.result c.requires.block.lies c.hash_key-key.ensures in
+    subst (All (IsHeld c.args.config.now _)) (sym c.in-Ok-put.ensures.ok) (path-put c.args.config.now c.args.verity.now c.args.tree.now c.args.wanted.now.level c.args.wanted.now.block c.requires.block.lies c.args.wanted.now.digest bytes c.in-Ok.bytes c.hash_key-key.result key c.args.path.now.items c.args.wanted.now.at c.requires.held c.in-Ok.ensures.reads)
 
 pub walk_path-path_block-requires : goal.walk_path-path_block-requires
 walk_path-path_block-requires g t c κs within =
     let config = c.args.config.now in
-    let deep = hash-depth config c.args.verity.now c.args.tree.now c.requires.stack.sound.loaded c.requires.block.lies in
     let stack = stack-later config c.loop-left.invariant.walked.moved.moved.fixed c.requires.stack c.loop-left.invariant.cached in
     let low : c.loop-left.left - 1 < levels (tree_of c.args.verity.now) = omega (arith, c.loop-left.invariant.walked.count, c.loop-left-test.true) in
-    (omega (arith, deep), (within, (stack, (c.requires.block, (low, (c.loop-left.invariant.held, c.loop-left.invariant.within))))))
+    (omega arith, (within, (stack, (c.requires.block, (low, (c.loop-left.invariant.held, c.loop-left.invariant.within))))))
 
 pub walk_path-returns-in-Err-clause-moved : goal.walk_path-returns-in-Err-clause-moved
-walk_path-returns-in-Err-clause-moved g t c =
-    path-stopped c.args.config.now c.args.verity.now c.args.tree.now c.args.index c.requires.stack.sound.loaded c.requires.block.lies c.loop-left.left (c.loop-left.left - 1) (omega (arith, c.loop-left-test.true)) c.loop-left.invariant.walked (hash_place_of c.args.verity.now c.args.tree.now (c.loop-left.left - 1) c.args.index)
-    (hash-lies c.args.config.now c.args.verity.now c.args.tree.now (c.loop-left.left - 1) c.args.index c.requires.stack.sound.loaded c.requires.block.lies c.requires.block.there (omega (arith, c.loop-left.invariant.walked.count, c.loop-left-test.true))) (c.in-Err.first) (c.in-Err.ensures.reads no_block)
+walk_path-returns-in-Err-clause-moved g t c = path-stopped c.args.config.now c.args.verity.now c.args.tree.now c.args.index c.requires.stack.sound.loaded c.requires.block.lies c.loop-left.left (c.loop-left.left - 1) (omega (arith, c.loop-left-test.true)) c.loop-left.invariant.walked c.in-Err.first (c.in-Err.ensures.reads no_block)
 
 pub walk_path-returns-clause-moved : goal.walk_path-returns-clause-moved
 walk_path-returns-clause-moved g t c = path-ended (block_in c.args.config.now c.args.verity.now c.args.index) c.loop-left.left c.loop-left.invariant.walked
@@ -770,9 +771,7 @@ walk_path-returns-clause-ok g t c =
     path-whole b c.loop-left.left (omega (arith, c.loop-left-test.false)) c.loop-left.at c.loop-left.path.items c.loop-left.invariant.within c.loop-left.invariant.walked
 
 pub walk_path-returns-in-Err-clause-err : goal.walk_path-returns-in-Err-clause-err
-walk_path-returns-in-Err-clause-err g t c =
-    path-failed c.args.config.now c.args.verity.now c.args.tree.now c.args.index c.requires.stack.sound.loaded c.requires.block.lies c.loop-left.left (c.loop-left.left - 1) (omega (arith, c.loop-left-test.true)) c.loop-left.invariant.walked (hash_place_of c.args.verity.now c.args.tree.now (c.loop-left.left - 1) c.args.index)
-    (hash-lies c.args.config.now c.args.verity.now c.args.tree.now (c.loop-left.left - 1) c.args.index c.requires.stack.sound.loaded c.requires.block.lies c.requires.block.there (omega (arith, c.loop-left.invariant.walked.count, c.loop-left-test.true))) c.in-Err.first (c.in-Err.ensures.reads no_block)
+walk_path-returns-in-Err-clause-err g t c = path-failed c.args.config.now c.args.verity.now c.args.tree.now c.args.index c.requires.stack.sound.loaded c.requires.block.lies c.loop-left.left (c.loop-left.left - 1) (omega (arith, c.loop-left-test.true)) c.loop-left.invariant.walked c.in-Err.first (c.in-Err.ensures.reads no_block)
 
 pub walk_path-digest_in-digest-requires : goal.walk_path-digest_in-digest-requires
 walk_path-digest_in-digest-requires g t c =
@@ -804,8 +803,7 @@ walk_path-loop-left-preserved g t c =
     let after = c.path_block.new.path.items in
     let bytes_of : CachedBlock → List ℕ = λ b. b.bytes in
     let block : List ℕ = (get_or after at no_block).bytes in
-    let down = path-down c.args.config.now v tree index c.requires.stack.sound.loaded c.requires.block.lies c.loop-left.left level (omega (arith, c.loop-left-test.true)) c.loop-left.invariant.walked (hash_place_of c.args.verity.now c.args.tree.now (c.loop-left.left - 1) c.args.index)
-    (hash-lies c.args.config.now c.args.verity.now c.args.tree.now (c.loop-left.left - 1) c.args.index c.requires.stack.sound.loaded c.requires.block.lies c.requires.block.there (omega (arith, c.loop-left.invariant.walked.count, c.loop-left-test.true))) block (c.in-Ok.ensures.reads no_block) in
+    let down = path-down c.args.config.now v tree index c.requires.stack.sound.loaded c.requires.block.lies c.loop-left.left level (omega (arith, c.loop-left-test.true)) c.loop-left.invariant.walked block (c.in-Ok.ensures.reads no_block) in
     let here : c.as_slice-in-Ok.result.now ≡ block =
     c.as_slice-in-Ok.ensures.value ∙ ap (λ (b : CachedBlock). b.bytes) (c.block.view_is ∙ c.index-as_slice-at.is
     ∙ ap (λ (l : List CachedBlock). get_or l c.loop-left.at c.index-as_slice-at.result) c.as_slice.ensures.value
@@ -1070,7 +1068,7 @@ read_blocks-keep-requires g t c =
     let width : j * v.data_block + v.data_block - j * v.data_block ≡ v.data_block = sub-same (j * v.data_block) v.data_block in
     let len = length-take (j * v.data_block + v.data_block - j * v.data_block) (drop (j * v.data_block) all) in
     let Small : CachedBlock → Type 0 = λ x. length x.bytes ≤ largest_allocation in
-    let held : All Small c.walk_path.new.path.items = cached-small c.args.config.now b.loaded _ c.walk_path.new.path.items c.in-Ok.ensures.held in
+    let held : All Small c.walk_path.new.path.items = held-small c.args.config.now b.loaded _ c.walk_path.new.path.items c.in-Ok.ensures.held in
     (omega (arith, len, width, b.size.whole, b.size.most), All-take Small c.levels.result c.as_slice.result.now (subst (λ (l : List CachedBlock). All Small l) (sym c.as_slice.ensures.value) held))
 
 pub read_blocks-returns-in-Err-keep-clause-reads : goal.read_blocks-returns-in-Err-keep-clause-reads
@@ -1168,7 +1166,7 @@ read_blocks-returns-in-Err-clause-step g t c =
     let all = c.checks.invariant in
     let b = blocks-at c.requires in
     let turn = turn-at b all.checked c.requires.fits.sectors.whole c.from.ensures c.checks-test.true in
-    let walked = asks-up (hash-within-device config c.args.part.verity.now tree.result b.loaded tree.ensures.tree c.args.part.device tree.ensures.device) c.in-Err.ensures.touches in
+    let walked = asks-up (same-within config tree.ensures.device) c.in-Err.ensures.touches in
     step-met (blocks-meet config c.args.part (length c.args.out.now / 512) (omega (arith, c.requires.fits.sectors.some, c.requires.fits.sectors.whole)))
     (record { capacity = c.in-Err.ensures.cached.capacity ∙ all.cached.capacity; sound = c.in-Err.ensures.cached.sound })
     (asks-then all.touches (asks-as (Err c.in-Err.first) walked.fault (λ failures. refl) walked)) (way-costs b turn all.checked.had c.in-Err.ensures.moved)
@@ -1268,14 +1266,10 @@ pub read_checked-returns-then-eq-clause-touches : goal.read_checked-returns-then
 read_checked-returns-then-eq-clause-touches g t c = asks-less (λ none meets. none) (asks-as (Ok (with_items c.in-Ok.block c.read_lower.new.out)) tt (λ failures. refl) c.in-Ok-read_lower.ensures.step.touches)
 
 pub walk-returns-in-Err-clause-touches : goal.walk-returns-in-Err-clause-touches
-walk-returns-in-Err-clause-touches g t c =
-    let read = hash-touched c.args.config.now c.args.verity.now c.args.tree.now c.requires.stack.sound.loaded c.requires.block.lies c.hash_extent-extent.result c.hash_extent-extent.ensures c.in-Err.ensures.touches in
-    asks-then c.loop-level.invariant.touches (asks-as (Err c.in-Err.first) read.fault (λ failures. refl) read)
+walk-returns-in-Err-clause-touches g t c = asks-then c.loop-level.invariant.touches (asks-as (Err c.in-Err.first) c.in-Err.ensures.touches.fault (λ failures. refl) c.in-Err.ensures.touches)
 
 pub walk-returns-in-Err-push-clause-touches : goal.walk-returns-in-Err-push-clause-touches
-walk-returns-in-Err-push-clause-touches g t c =
-    let read = hash-touched c.args.config.now c.args.verity.now c.args.tree.now c.requires.stack.sound.loaded c.requires.block.lies c.hash_extent-extent.result c.hash_extent-extent.ensures c.in-Ok.ensures.touches in
-    asks-then c.loop-level.invariant.touches (asks-as (Err NoMemory) tt (λ failures. refl) read)
+walk-returns-in-Err-push-clause-touches g t c = asks-then c.loop-level.invariant.touches (asks-as (Err NoMemory) tt (λ failures. refl) c.in-Ok.ensures.touches)
 
 pub walk-returns-in-Err-read_data-clause-touches : goal.walk-returns-in-Err-read_data-clause-touches
 walk-returns-in-Err-read_data-clause-touches g t c =
@@ -1286,17 +1280,13 @@ walk-returns-in-Ok-read_data-clause-touches g t c =
     asks-then c.loop-level.invariant.touches (asks-as (Ok _) tt (λ failures. refl) c.in-Ok-read_data.ensures.touches)
 
 pub path_block-returns-in-Err-clause-touches : goal.path_block-returns-in-Err-clause-touches
-path_block-returns-in-Err-clause-touches g t c =
-    let read = extent-touched c.args.config.now c.hash_extent-extent.result c.hash_extent-extent.ensures c.in-Err.ensures.touches in
-    asks-as (Err c.in-Err.fault) read.fault (λ failures. refl) read
+path_block-returns-in-Err-clause-touches g t c = asks-as (Err c.in-Err.fault) c.in-Err.ensures.touches.fault (λ failures. refl) c.in-Err.ensures.touches
 
 pub path_block-returns-in-Err-put-clause-touches : goal.path_block-returns-in-Err-put-clause-touches
-path_block-returns-in-Err-put-clause-touches g t c =
-    asks-as (Err NoMemory) tt (λ failures. refl) (extent-touched c.args.config.now c.hash_extent-extent.result c.hash_extent-extent.ensures c.in-Ok.ensures.touches)
+path_block-returns-in-Err-put-clause-touches g t c = asks-as (Err NoMemory) tt (λ failures. refl) c.in-Ok.ensures.touches
 
 pub path_block-returns-in-Ok-put-clause-touches : goal.path_block-returns-in-Ok-put-clause-touches
-path_block-returns-in-Ok-put-clause-touches g t c =
-    asks-as (Ok tt) tt (λ failures. refl) (extent-touched c.args.config.now c.hash_extent-extent.result c.hash_extent-extent.ensures c.in-Ok.ensures.touches)
+path_block-returns-in-Ok-put-clause-touches g t c = asks-as (Ok tt) tt (λ failures. refl) c.in-Ok.ensures.touches
 
 pub walk_path-returns-in-Err-clause-touches : goal.walk_path-returns-in-Err-clause-touches
 walk_path-returns-in-Err-clause-touches g t c =
@@ -1447,7 +1437,7 @@ walk-loop-level-init g t c =
       walked = walk-begins (block_in config v c.args.index) (sym all) (sym (ap (map bytes) c.new-path.ensures.items));
       cached = record { capacity = refl; sound = c.requires.stack.cached };
       touches = asks-none _ (leaves_of config (mapped c.args.tree.now.device.0)) (map g.D.BlockDev.state devices) (Ok tt) tt refl;
-      given = ([], subst (λ (k : ℕ). LeadsTo (DeviceDoes g.D.BlockDev.state g.D.BlockDev.does) config (whole_data place one_block) (data_of place k v.root [] one_block) (served c.args.backing.now) (served c.args.backing.now)) (sym all) (leads-begin (whole_data place one_block)));
+      given = ([], subst (λ (k : ℕ). LeadsTo (DeviceDoes g.D.BlockDev.state g.D.BlockDev.does) config (whole_data place (one_asked c.args.part)) (data_of place k v.root [] (one_asked c.args.part)) (served c.args.backing.now) (served c.args.backing.now)) (sym all) (leads-begin (whole_data place (one_asked c.args.part))));
     }
 
 pub walk_path-loop-left-init : goal.walk_path-loop-left-init
@@ -1462,7 +1452,7 @@ walk_path-loop-left-init g t c =
       walked = walk-begins (block_in config v c.args.index) (sym all) refl;
       held = c.requires.held;
       cached = record { capacity = refl; sound = c.requires.stack.cached };
-      touches = asks-none _ (leaves_of config c.args.tree.now.hash) (map g.D.BlockDev.state devices) (Ok tt) tt refl;
+      touches = asks-none _ (leaves_of config (mapped c.args.tree.now.device.0)) (map g.D.BlockDev.state devices) (Ok tt) tt refl;
       given = λ next. subst (λ (k : ℕ). LeadsTo (DeviceDoes g.D.BlockDev.state g.D.BlockDev.does) config (whole_data place next) (data_of place k v.root [] next) (served c.args.backing.now) (served c.args.backing.now)) (sym all) (leads-begin (whole_data place next));
     }
 
@@ -1524,23 +1514,32 @@ hash_block-returns-in-Ok-clause-given g t c = hash-given c.in-Ok.ensures.given
 
 pub read_data-returns-in-Ok-clause-given : goal.read_data-returns-in-Ok-clause-given
 read_data-returns-in-Ok-clause-given g t c last =
-    let place = place_in c.args.verity.now c.args.tree.now c.args.index in
+    let place = place_in c.args.verity.now c.args.tree.now c.args.wanted.now.block in
     let at = served c.args.backing.now in
-    subst (λ (b : List ℕ). ReadsBy (DeviceDoes g.D.BlockDev.state g.D.BlockDev.does) c.args.config.now (data_of place 0 c.args.expected.now last one_block) at at (Ok b)) (sym c.in-Ok.ensures.ok)
-    (reads-none (one_ignored place c.args.expected.now last (sym c.is_ignored.ensures ∙ c.if-is_ignored.true)))
+    subst (λ (b : List ℕ). ReadsBy (DeviceDoes g.D.BlockDev.state g.D.BlockDev.does) c.args.config.now (data_of place 0 c.args.wanted.now.digest last (one_asked c.args.wanted.now.part)) at at (Ok b)) (sym c.in-Ok.ensures.ok)
+    (one-asked c.args.wanted.now.part (reads-none (one_ignored place c.args.wanted.now.digest last (sym c.is_ignored.ensures ∙ c.if-is_ignored.true))))
 
 pub read_data-returns-in-Err-clause-given : goal.read_data-returns-in-Err-clause-given
-read_data-returns-in-Err-clause-given g t c last = reads-none (way_full (place_in c.args.verity.now c.args.tree.now c.args.index) 0 c.args.expected.now last one_block)
+read_data-returns-in-Err-clause-given g t c last = reads-none (way_full (place_in c.args.verity.now c.args.tree.now c.args.wanted.now.block) 0 c.args.wanted.now.digest last (one_asked c.args.wanted.now.part))
+
+pub read_data-returns-in-Err-kept_data-clause-given : goal.read_data-returns-in-Err-kept_data-clause-given
+read_data-returns-in-Err-kept_data-clause-given g t c last = reads-none (way_full (place_in c.args.verity.now c.args.tree.now c.args.wanted.now.block) 0 c.args.wanted.now.digest last (one_asked c.args.wanted.now.part))
+
+pub read_data-returns-in-Ok-Some-clause-given : goal.read_data-returns-in-Ok-Some-clause-given
+read_data-returns-in-Ok-Some-clause-given g t c last =
+    let used = sym c.is_ignored.ensures ∙ c.if-is_ignored.false in
+    let found = subst (λ (o : Option (Vec ℕ Global)). IfSome o (λ block. IsKeptData c.args.tree.now c.args.wanted.now c.args.backing.now.cache.last block.items)) c.in-Ok-Some.field-0-is c.in-Ok-Some.ensures.answer in
+    let had = kept-data-had c.args.config.now c.args.verity.now c.args.tree.now c.args.wanted.now c.requires.stack.sound.loaded c.requires.block.lies c.requires.block.there (map g.D.BlockDev.state c.args.backing.now.devices.items) c.args.backing.now.cache c.requires.stack.cached used c.in-Ok-Some.block found in
+    one-kept (place_in c.args.verity.now c.args.tree.now c.args.wanted.now.block) last c.in-Ok-Some.block.items c.args.wanted.now.part found.part used had.may
+
+pub read_data-returns-in-Ok-None-clause-given : goal.read_data-returns-in-Ok-None-clause-given
+read_data-returns-in-Ok-None-clause-given g t c last = one-asked c.args.wanted.now.part (c.fetch_data.ensures.given last)
 
 pub walk-returns-in-Err-clause-given : goal.walk-returns-in-Err-clause-given
-walk-returns-in-Err-clause-given g t c =
-    way-unled c.loop-level.level (c.loop-level.level - 1) (omega (arith, c.loop-level-test.true)) c.loop-level.invariant.given.1
-    (reads-expected hash_of (ap (λ (e : Extent). expected_in e c.args.verity.now.salt c.loop-level.expected) c.hash_extent-extent.ensures.value) c.in-Err.ensures.given)
+walk-returns-in-Err-clause-given g t c = way-unled c.loop-level.level (c.loop-level.level - 1) (omega (arith, c.loop-level-test.true)) c.loop-level.invariant.given.1 c.in-Err.ensures.given
 
 pub walk-returns-in-Err-push-clause-given : goal.walk-returns-in-Err-push-clause-given
-walk-returns-in-Err-push-clause-given g t c =
-    way-short (way-led c.loop-level.level (c.loop-level.level - 1) c.in-Ok.block.items (omega (arith, c.loop-level-test.true)) c.loop-level.invariant.given.1
-    (reads-expected hash_of (ap (λ (e : Extent). expected_in e c.args.verity.now.salt c.loop-level.expected) c.hash_extent-extent.ensures.value) c.in-Ok.ensures.given))
+walk-returns-in-Err-push-clause-given g t c = way-short (way-led c.loop-level.level (c.loop-level.level - 1) c.in-Ok.block.items (omega (arith, c.loop-level-test.true)) c.loop-level.invariant.given.1 c.in-Ok.ensures.given)
 
 pub walk-returns-in-Err-read_data-clause-given : goal.walk-returns-in-Err-read_data-clause-given
 walk-returns-in-Err-read_data-clause-given g t c =
@@ -1575,12 +1574,12 @@ read_block-returns-in-Some-clause-given g t c =
 pub read_block-returns-in-Err-clause-given : goal.read_block-returns-in-Err-clause-given
 read_block-returns-in-Err-clause-given g t c =
     let tree = c.tree_of-tree in
-    data-ungiven c.args.part (length c.args.out.now / 512) c.from-sectors.ensures (place-same c.args.part tree.result (c.args.part.first / c.from-sectors.result) tree.ensures.tree.on_hash c.requires.fits.holds.of.on_hash tree.ensures.data tree.ensures.tree.on_parity c.requires.fits.holds.of.on_parity) c.in-Err.ensures.given
+    data-ungiven c.args.part (length c.args.out.now / 512) c.from-sectors.ensures (place-same c.args.part tree.result (c.args.part.first / c.from-sectors.result) tree.ensures.tree.on_hash c.requires.fits.holds.of.on_hash tree.ensures.data tree.ensures.tree.on_parity c.requires.fits.holds.of.on_parity) refl c.in-Err.ensures.given
 
 pub read_block-returns-in-Err-push-clause-given : goal.read_block-returns-in-Err-push-clause-given
 read_block-returns-in-Err-push-clause-given g t c =
     let tree = c.tree_of-tree in
-    data-short c.args.part (length c.args.out.now / 512) c.from-sectors.ensures (place-same c.args.part tree.result (c.args.part.first / c.from-sectors.result) tree.ensures.tree.on_hash c.requires.fits.holds.of.on_hash tree.ensures.data tree.ensures.tree.on_parity c.requires.fits.holds.of.on_parity) c.in-Ok.ensures.given
+    data-short c.args.part (length c.args.out.now / 512) c.from-sectors.ensures (place-same c.args.part tree.result (c.args.part.first / c.from-sectors.result) tree.ensures.tree.on_hash c.requires.fits.holds.of.on_hash tree.ensures.data tree.ensures.tree.on_parity c.requires.fits.holds.of.on_parity) refl c.in-Ok.ensures.given
 
 pub read_block-returns-in-Ok-push-clause-given : goal.read_block-returns-in-Ok-push-clause-given
 read_block-returns-in-Ok-push-clause-given g t c =
@@ -1601,7 +1600,7 @@ read_block-returns-in-Ok-push-clause-given g t c =
     ∙ ap (λ (y : FoundRecord). take (length c.args.out.now) (drop (512 * (p.first % c.from-sectors.result)) y.chain.content)) here
     ∙ ap (λ (k : ℕ). take k (drop (512 * (p.first % c.from-sectors.result)) c.in-Ok.chain.content)) len
     ∙ ap (λ (k : ℕ). take (512 * n) (drop (512 * (p.first % k)) c.in-Ok.chain.content)) sectors in
-    data-given p n sectors (place-same p tree.result (p.first / c.from-sectors.result) tree.ensures.tree.on_hash c.requires.fits.holds.of.on_hash tree.ensures.data tree.ensures.tree.on_parity c.requires.fits.holds.of.on_parity) is c.in-Ok.ensures.given
+    data-given p n sectors (place-same p tree.result (p.first / c.from-sectors.result) tree.ensures.tree.on_hash c.requires.fits.holds.of.on_hash tree.ensures.data tree.ensures.tree.on_parity c.requires.fits.holds.of.on_parity) refl is c.in-Ok.ensures.given
 
 pub path_block-returns-then-stands-clause-given : goal.path_block-returns-then-stands-clause-given
 path_block-returns-then-stands-clause-given g t c x =
@@ -1614,17 +1613,14 @@ path_block-returns-then-stands-clause-given g t c x =
     let there = subst (λ (l : List CachedBlock). w.at < length l) value stands.0 in
     let key = subst (λ (l : List CachedBlock). (get_or l w.at x).key ≡ c.hash_key-key.result) value (stands.1 x).0 in
     let digest = subst (λ (l : List CachedBlock). (get_or l w.at x).digest ≡ w.digest) value (stands.1 x).1 in
-    let at = hash-lies config v tree w.level w.block c.requires.stack.sound.loaded c.requires.block.lies c.requires.block.there c.requires.level in
-    let place = place_key config v tree w.level w.block c.hash_key-key.result (hash_place_of v tree w.level w.block) c.requires.block.lies c.hash_key-key.ensures at in
-    reads-none (hash_kept (expected_hash (place_in v tree w.block) w.level w.digest) _ (path-hit config place _ c.args.path.now.items w.at x w.digest c.requires.held there key digest).may)
+    let own = path-hit config v tree w.level w.block c.requires.block.lies w.digest _ c.args.path.now.items w.at x c.requires.held there (key ∙ way-key config v tree w.level w.block c.hash_key-key.result c.requires.block.lies c.hash_key-key.ensures) digest in
+    reads-none (way_had tt (hash_kept (expected_hash (place_in v tree w.block) w.level w.digest) _ own.may))
 
 pub path_block-returns-in-Err-clause-given : goal.path_block-returns-in-Err-clause-given
-path_block-returns-in-Err-clause-given g t c x =
-    reads-expected hash_of (ap (λ (e : Extent). expected_in e c.args.verity.now.salt c.args.wanted.now.digest) c.hash_extent-extent.ensures.value) c.in-Err.ensures.given
+path_block-returns-in-Err-clause-given g t c x = c.in-Err.ensures.given
 
 pub path_block-returns-in-Err-put-clause-given : goal.path_block-returns-in-Err-put-clause-given
-path_block-returns-in-Err-put-clause-given g t c x =
-    hash-ungiven (reads-expected hash_of (ap (λ (e : Extent). expected_in e c.args.verity.now.salt c.args.wanted.now.digest) c.hash_extent-extent.ensures.value) c.in-Ok.ensures.given)
+path_block-returns-in-Err-put-clause-given g t c x = way-ungiven c.in-Ok.ensures.given
 
 pub path_block-returns-in-Ok-put-clause-given : goal.path_block-returns-in-Ok-put-clause-given
 path_block-returns-in-Ok-put-clause-given g t c x =
@@ -1635,8 +1631,8 @@ path_block-returns-in-Ok-put-clause-given g t c x =
     let front : w.at ≡ length (take w.at path) = sym (length-take-le w.at path c.requires.at) in
     let here : get_or c.put.new.path.items w.at x ≡ one =
     ap (λ (l : List CachedBlock). get_or l w.at x) c.in-Ok-put.ensures.ok ∙ ap (λ (k : ℕ). get_or (take w.at path ++ (one ∷ [])) k x) front ∙ get_or-append_seam (take w.at path) one [] x in
-    subst (λ (b : List ℕ). ReadsBy (DeviceDoes g.D.BlockDev.state g.D.BlockDev.does) c.args.config.now (hash_of (expected_hash (place_in v c.args.tree.now w.block) w.level w.digest)) (served c.args.backing.now) (served c.hash_block.new.backing) (Ok b))
-    (sym (ap (λ (b : CachedBlock). b.bytes) here)) (reads-expected hash_of (ap (λ (e : Extent). expected_in e v.salt w.digest) c.hash_extent-extent.ensures.value) c.in-Ok.ensures.given)
+    subst (λ (b : List ℕ). ReadsBy (DeviceDoes g.D.BlockDev.state g.D.BlockDev.does) c.args.config.now (way_of (place_in v c.args.tree.now w.block) w.level w.digest) (served c.args.backing.now) (served c.way_block.new.backing) (Ok b))
+    (sym (ap (λ (b : CachedBlock). b.bytes) here)) c.in-Ok.ensures.given
 
 pub walk_path-returns-in-Err-clause-given : goal.walk_path-returns-in-Err-clause-given
 walk_path-returns-in-Err-clause-given g t c next = way-unled c.loop-left.left (c.loop-left.left - 1) (omega (arith, c.loop-left-test.true)) (c.loop-left.invariant.given next) (c.in-Err.ensures.given no_block)
@@ -2054,6 +2050,16 @@ mend-returns-in-Err-add_parity-clause-reads g t c =
     let round = is-round config v c.args.tree.now c.requires.stack.sound.loaded c.requires.block.lies index c.requires.block.there q has in
     stored-fails (block_in config v index) q has round.some round.few round.low c.args.lost.now.digest (omega (arith, c.loop-place-test.false, c.loop-place.invariant.within)) (c.loop-place.invariant.summed q has) c.in-Err-add_parity.fault (c.in-Err-add_parity.ensures.reads q has)
 
+pub mend-returns-then-eq-clause-cached : goal.mend-returns-then-eq-clause-cached
+mend-returns-then-eq-clause-cached g t c =
+    let step = c.in-Ok-add_parity.ensures.cached in
+    record { capacity = step.capacity ∙ c.loop-place.invariant.cached.capacity; sound = step.sound }
+
+pub mend-returns-clause-cached : goal.mend-returns-clause-cached
+mend-returns-clause-cached g t c =
+    let step = c.in-Ok-add_parity.ensures.cached in
+    record { capacity = step.capacity ∙ c.loop-place.invariant.cached.capacity; sound = step.sound }
+
 pub mend-returns-in-Err-add_parity-clause-given : goal.mend-returns-in-Err-add_parity-clause-given
 mend-returns-in-Err-add_parity-clause-given g t c =
     let q = c.in-Some.parity in
@@ -2152,7 +2158,7 @@ heal-returns-in-Err-mend-clause-touches g t c =
 -- ---- a block that was read together with others
 
 pub settle_block-mend-requires : goal.settle_block-mend-requires
-settle_block-mend-requires g t c κs within = (omega arith, (within, (c.requires.stack, (c.requires.block, c.settle.auto.block ∙ c.requires.size))))
+settle_block-mend-requires g t c κs within = (omega arith, (within, (c.requires.stack, (data-verified c.requires.block, c.settle.auto.block ∙ c.requires.size))))
 
 pub settle_block-returns-then-settle-clause-reads : goal.settle_block-returns-then-settle-clause-reads
 settle_block-returns-then-settle-clause-reads g t c = inl (
@@ -2176,32 +2182,39 @@ settle_block-returns-in-Err-clause-reads g t c =
 pub settle_block-returns-in-Err-clause-touches : goal.settle_block-returns-in-Err-clause-touches
 settle_block-returns-in-Err-clause-touches g t c = rw c.unhealed.ensures (asks-unhealed Mismatch c.in-Err.vain c.in-Err.ensures.touches)
 
-pub read_data-heal-requires : goal.read_data-heal-requires
-read_data-heal-requires g t c κs within =
-    let own = asks-up (data-within c.args.config.now c.args.verity.now c.args.tree.now c.requires.stack.sound.loaded c.requires.block.lies) (extent-touched c.args.config.now c.data_extent-extent.result c.data_extent-extent.ensures c.in-Err-read_checked.ensures.touches) in
-    (omega arith, (within, (stack-later c.args.config.now c.in-Err-read_checked.ensures.reads.moved.moved.fixed c.requires.stack c.in-Err-read_checked.ensures.cached, (c.requires.block, record { heals = sym c.can_heal.ensures ∙ c.if-can_heal.true; named = own.fault }))))
+pub fetch_data-heal-requires : goal.fetch_data-heal-requires
+fetch_data-heal-requires g t c κs within =
+    let own = asks-up (data-within c.args.config.now c.args.verity.now c.args.tree.now c.requires.stack.sound.loaded c.requires.block.lies) (extent-touched c.args.config.now c.data_extent-extent.result c.data_extent-extent.ensures c.in-Err.ensures.touches) in
+    (omega arith, (within, (stack-later c.args.config.now c.in-Err.ensures.reads.moved.moved.fixed c.requires.stack c.in-Err.ensures.cached, (data-verified c.requires.block, record { heals = sym c.can_heal.ensures ∙ c.if-can_heal.true; named = own.fault }))))
 
-pub read_data-returns-in-Ok-read_checked-clause-touches : goal.read_data-returns-in-Ok-read_checked-clause-touches
-read_data-returns-in-Ok-read_checked-clause-touches g t c =
-    asks-up (data-within c.args.config.now c.args.verity.now c.args.tree.now c.requires.stack.sound.loaded c.requires.block.lies) (extent-touched c.args.config.now c.data_extent-extent.result c.data_extent-extent.ensures c.in-Ok-read_checked.ensures.touches)
+pub fetch_data-returns-in-Ok-clause-touches : goal.fetch_data-returns-in-Ok-clause-touches
+fetch_data-returns-in-Ok-clause-touches g t c =
+    asks-up (data-within c.args.config.now c.args.verity.now c.args.tree.now c.requires.stack.sound.loaded c.requires.block.lies) (extent-touched c.args.config.now c.data_extent-extent.result c.data_extent-extent.ensures c.in-Ok.ensures.touches)
 
-pub read_data-returns-in-Ok-read_checked-clause-given : goal.read_data-returns-in-Ok-read_checked-clause-given
-read_data-returns-in-Ok-read_checked-clause-given g t c last = one-given last (sym c.is_ignored.ensures ∙ c.if-is_ignored.false) c.data_extent-extent.ensures.value tt c.in-Ok-read_checked.ensures.given
+pub fetch_data-returns-in-Ok-clause-given : goal.fetch_data-returns-in-Ok-clause-given
+fetch_data-returns-in-Ok-clause-given g t c last = one-given last c.requires.used c.data_extent-extent.ensures.value tt c.in-Ok.ensures.given
 
-pub read_data-returns-then-can_heal-clause-reads : goal.read_data-returns-then-can_heal-clause-reads
-read_data-returns-then-can_heal-clause-reads g t c =
+pub fetch_data-returns-then-can_heal-clause-reads : goal.fetch_data-returns-then-can_heal-clause-reads
+fetch_data-returns-then-can_heal-clause-reads g t c =
     let v = c.args.verity.now in
     let config = c.args.config.now in
     let healed = c.heal.ensures.reads in
-    let b = block_in config v c.args.index in
-    let own = checked_as config v.data c.args.tree.now.data (block_sectors v * c.args.index) (block_sectors v) v.salt c.args.expected.now (Err c.in-Err-read_checked.own) c.data_extent-extent.result c.requires.block.lies.on_data c.data_extent-extent.ensures.value c.in-Err-read_checked.ensures.reads in
-    subst (λ (r : Result (Vec ℕ Global) IoFault). Gets (data_expected bytes b c.args.expected.now) (map g.D.BlockDev.state c.args.backing.now.devices.items) (map g.D.BlockDev.state c.heal.new.backing.devices.items) r) (sym healed.is)
-    (data_answered bytes b c.args.expected.now c.in-Err-read_checked.own healed.spare (sym c.can_heal.ensures ∙ c.if-can_heal.true) (sym c.is_ignored.ensures ∙ c.if-is_ignored.false) own healed.got)
+    let b = block_in config v c.args.wanted.now.block in
+    let own = checked_as config v.data c.args.tree.now.data (block_sectors v * c.args.wanted.now.block) (block_sectors v) v.salt c.args.wanted.now.digest (Err c.in-Err.own) c.data_extent-extent.result c.requires.block.lies.on_data c.data_extent-extent.ensures.value c.in-Err.ensures.reads in
+    subst (λ (r : Result (Vec ℕ Global) IoFault). Gets (data_expected bytes b c.args.wanted.now.digest) (map g.D.BlockDev.state c.args.backing.now.devices.items) (map g.D.BlockDev.state c.heal.new.backing.devices.items) r) (sym healed.is)
+    (data_answered bytes b c.args.wanted.now.digest c.in-Err.own healed.spare (sym c.can_heal.ensures ∙ c.if-can_heal.true) c.requires.block.there c.requires.used own healed.got)
 
-pub read_data-returns-then-can_heal-clause-touches : goal.read_data-returns-then-can_heal-clause-touches
-read_data-returns-then-can_heal-clause-touches g t c =
-    asks-healed c.args.verity.now.parity c.in-Err-read_checked.own (sym c.can_heal.ensures ∙ c.if-can_heal.true) (λ none. none c.args.tree.now.device.0 c.args.tree.now.line c.args.verity.now c.requires.block.lies.is)
-    (asks-up (data-within c.args.config.now c.args.verity.now c.args.tree.now c.requires.stack.sound.loaded c.requires.block.lies) (extent-touched c.args.config.now c.data_extent-extent.result c.data_extent-extent.ensures c.in-Err-read_checked.ensures.touches))
+pub fetch_data-returns-else-can_heal-clause-reads : goal.fetch_data-returns-else-can_heal-clause-reads
+fetch_data-returns-else-can_heal-clause-reads g t c =
+    let v = c.args.verity.now in
+    let config = c.args.config.now in
+    data_settled bytes (block_in config v c.args.wanted.now.block) c.args.wanted.now.digest c.in-Err.own (sym c.can_heal.ensures ∙ c.if-can_heal.false) c.requires.used
+    (checked_as config v.data c.args.tree.now.data (block_sectors v * c.args.wanted.now.block) (block_sectors v) v.salt c.args.wanted.now.digest (Err c.in-Err.own) c.data_extent-extent.result c.requires.block.lies.on_data c.data_extent-extent.ensures.value c.in-Err.ensures.reads)
+
+pub fetch_data-returns-then-can_heal-clause-touches : goal.fetch_data-returns-then-can_heal-clause-touches
+fetch_data-returns-then-can_heal-clause-touches g t c =
+    asks-healed c.args.verity.now.parity c.in-Err.own (sym c.can_heal.ensures ∙ c.if-can_heal.true) (λ none. none c.args.tree.now.device.0 c.args.tree.now.line c.args.verity.now c.requires.block.lies.is)
+    (asks-up (data-within c.args.config.now c.args.verity.now c.args.tree.now c.requires.stack.sound.loaded c.requires.block.lies) (extent-touched c.args.config.now c.data_extent-extent.result c.data_extent-extent.ensures c.in-Err.ensures.touches))
     c.heal.ensures.touches
 
 -- the bytes of what is answered after the spare
@@ -2209,19 +2222,104 @@ healed-bytes : (fault : IoFault) (spare : Result (Vec ℕ Global) IoFault) → h
 healed-bytes fault (Ok x) = refl
 healed-bytes fault (Err vain) = refl
 
-pub read_data-returns-then-can_heal-clause-given : goal.read_data-returns-then-can_heal-clause-given
-read_data-returns-then-can_heal-clause-given g t c last =
+pub fetch_data-returns-then-can_heal-clause-given : goal.fetch_data-returns-then-can_heal-clause-given
+fetch_data-returns-then-can_heal-clause-given g t c last =
     let healed = c.heal.ensures.reads in
-    let place = place_in c.args.verity.now c.args.tree.now c.args.index in
-    let fault = c.in-Err-read_checked.own in
-    subst (λ (r : Result (List ℕ) IoFault). ReadsBy (DeviceDoes g.D.BlockDev.state g.D.BlockDev.does) c.args.config.now (data_of place 0 c.args.expected.now last one_block) (served c.args.backing.now) (served c.heal.new.backing) r)
+    let place = place_in c.args.verity.now c.args.tree.now c.args.wanted.now.block in
+    let fault = c.in-Err.own in
+    subst (λ (r : Result (List ℕ) IoFault). ReadsBy (DeviceDoes g.D.BlockDev.state g.D.BlockDev.does) c.args.config.now (data_of place 0 c.args.wanted.now.digest last one_block) (served c.args.backing.now) (served c.heal.new.backing) r)
     (healed-bytes fault healed.spare ∙ ap block_answer (sym healed.is))
-    (subst (λ s. ReadsBy (DeviceDoes g.D.BlockDev.state g.D.BlockDev.does) c.args.config.now (data_of place 0 c.args.expected.now last one_block) (served c.args.backing.now) s (healed_result fault (block_answer healed.spare))) (sym healed.counted)
-    (one-healed last (sym c.is_ignored.ensures ∙ c.if-is_ignored.false) (sym c.can_heal.ensures ∙ c.if-can_heal.true) c.data_extent-extent.ensures.value c.in-Err-read_checked.ensures.given healed.given))
+    (subst (λ s. ReadsBy (DeviceDoes g.D.BlockDev.state g.D.BlockDev.does) c.args.config.now (data_of place 0 c.args.wanted.now.digest last one_block) (served c.args.backing.now) s (healed_result fault (block_answer healed.spare))) (sym healed.counted)
+    (one-healed last c.requires.used (sym c.can_heal.ensures ∙ c.if-can_heal.true) c.data_extent-extent.ensures.value c.in-Err.ensures.given healed.given))
 
-pub read_data-returns-else-can_heal-clause-touches : goal.read_data-returns-else-can_heal-clause-touches
-read_data-returns-else-can_heal-clause-touches g t c =
-    asks-up (data-within c.args.config.now c.args.verity.now c.args.tree.now c.requires.stack.sound.loaded c.requires.block.lies) (extent-touched c.args.config.now c.data_extent-extent.result c.data_extent-extent.ensures c.in-Err-read_checked.ensures.touches)
+pub fetch_data-returns-else-can_heal-clause-touches : goal.fetch_data-returns-else-can_heal-clause-touches
+fetch_data-returns-else-can_heal-clause-touches g t c =
+    asks-up (data-within c.args.config.now c.args.verity.now c.args.tree.now c.requires.stack.sound.loaded c.requires.block.lies) (extent-touched c.args.config.now c.data_extent-extent.result c.data_extent-extent.ensures c.in-Err.ensures.touches)
 
-pub read_data-returns-else-can_heal-clause-given : goal.read_data-returns-else-can_heal-clause-given
-read_data-returns-else-can_heal-clause-given g t c last = one-given last (sym c.is_ignored.ensures ∙ c.if-is_ignored.false) c.data_extent-extent.ensures.value (sym c.can_heal.ensures ∙ c.if-can_heal.false) c.in-Err-read_checked.ensures.given
+pub fetch_data-returns-else-can_heal-clause-given : goal.fetch_data-returns-else-can_heal-clause-given
+fetch_data-returns-else-can_heal-clause-given g t c last = one-given last c.requires.used c.data_extent-extent.ensures.value (sym c.can_heal.ensures ∙ c.if-can_heal.false) c.in-Err.ensures.given
+
+-- ---- a hash block on the way, or its spare
+
+pub way_block-hash_block-requires : goal.way_block-hash_block-requires
+way_block-hash_block-requires g t c κs within =
+    let config = c.args.config.now in
+    let extent = c.hash_extent-extent in
+    let deep = hash-depth config c.args.verity.now c.args.tree.now c.requires.stack.sound.loaded c.requires.block.lies in
+    let same : depth config extent.result.lower ≡ depth config c.args.tree.now.hash = ap (λ (e : Extent). depth config e.lower) extent.ensures.value in
+    let key = place_key config c.args.verity.now c.args.tree.now _ c.args.wanted.now.block c.hash_key-key.result extent.result c.requires.block.lies c.hash_key-key.ensures extent.ensures in
+    (omega (arith, deep, same), (within, (c.requires.stack, key)))
+
+pub way_block-returns-in-Ok-clause-reads : goal.way_block-returns-in-Ok-clause-reads
+way_block-returns-in-Ok-clause-reads g t c =
+    let w = c.args.wanted.now in
+    way-read c.args.config.now c.args.verity.now c.args.tree.now w.level w.block c.requires.stack.sound.loaded c.requires.block.lies c.requires.block.there c.requires.level w.digest c.hash_extent-extent.result c.hash_extent-extent.ensures c.in-Ok.block c.in-Ok.ensures.reads
+
+pub way_block-returns-in-Ok-clause-touches : goal.way_block-returns-in-Ok-clause-touches
+way_block-returns-in-Ok-clause-touches g t c =
+    hash-touched c.args.config.now c.args.verity.now c.args.tree.now c.requires.stack.sound.loaded c.requires.block.lies c.hash_extent-extent.result c.hash_extent-extent.ensures c.in-Ok.ensures.touches
+
+pub way_block-returns-in-Ok-clause-given : goal.way_block-returns-in-Ok-clause-given
+way_block-returns-in-Ok-clause-given g t c =
+    way-had tt (reads-expected hash_of (ap (λ (e : Extent). expected_in e c.args.verity.now.salt c.args.wanted.now.digest) c.hash_extent-extent.ensures.value) c.in-Ok.ensures.given)
+
+pub way_block-heal-requires : goal.way_block-heal-requires
+way_block-heal-requires g t c κs within =
+    let config = c.args.config.now in
+    let v = c.args.verity.now in
+    let tree = c.args.tree.now in
+    let w = c.args.wanted.now in
+    let own = hash-touched config v tree c.requires.stack.sound.loaded c.requires.block.lies c.hash_extent-extent.result c.hash_extent-extent.ensures c.in-Err.ensures.touches in
+    let low = way-verified config v tree w.level w.block c.requires.stack.sound.loaded c.requires.block.lies c.requires.block.there c.requires.level in
+    let block : HasVerifiedBlock config v tree c.hash_number-number.result = record { lies = c.requires.block.lies; there = subst (λ (k : ℕ). k < verified_blocks v) (sym c.hash_number-number.ensures) low } in
+    (omega arith, (within, (stack-later config c.in-Err.ensures.reads.moved.moved.fixed c.requires.stack c.in-Err.ensures.cached, (block, record { heals = sym c.can_heal.ensures ∙ c.if-can_heal.true; named = own.fault }))))
+
+pub way_block-returns-then-can_heal-clause-reads : goal.way_block-returns-then-can_heal-clause-reads
+way_block-returns-then-can_heal-clause-reads g t c =
+    let config = c.args.config.now in
+    let v = c.args.verity.now in
+    let w = c.args.wanted.now in
+    let healed = c.heal.ensures.reads in
+    let old = map g.D.BlockDev.state c.args.backing.now.devices.items in
+    let mid = map g.D.BlockDev.state c.hash_block.new.backing.devices.items in
+    let new = map g.D.BlockDev.state c.heal.new.backing.devices.items in
+    let got = subst (λ (k : ℕ). Gets (spare_expected bytes (block_in config v k) w.digest) mid new healed.spare) c.hash_number-number.ensures healed.got in
+    subst (λ (r : Result (Vec ℕ Global) IoFault). Gets (way_expected bytes (block_in config v w.block) w.level w.digest) old new r) (sym healed.is)
+    (way-answered config v c.args.tree.now w.level w.block c.requires.stack.sound.loaded c.requires.block.lies c.requires.block.there c.requires.level w.digest c.hash_extent-extent.result c.hash_extent-extent.ensures
+    c.in-Err.own healed.spare (sym c.can_heal.ensures ∙ c.if-can_heal.true) c.in-Err.ensures.reads got)
+
+pub way_block-returns-then-can_heal-clause-touches : goal.way_block-returns-then-can_heal-clause-touches
+way_block-returns-then-can_heal-clause-touches g t c =
+    asks-healed c.args.verity.now.parity c.in-Err.own (sym c.can_heal.ensures ∙ c.if-can_heal.true) (λ none. none c.args.tree.now.device.0 c.args.tree.now.line c.args.verity.now c.requires.block.lies.is)
+    (hash-touched c.args.config.now c.args.verity.now c.args.tree.now c.requires.stack.sound.loaded c.requires.block.lies c.hash_extent-extent.result c.hash_extent-extent.ensures c.in-Err.ensures.touches)
+    c.heal.ensures.touches
+
+pub way_block-returns-then-can_heal-clause-given : goal.way_block-returns-then-can_heal-clause-given
+way_block-returns-then-can_heal-clause-given g t c =
+    let healed = c.heal.ensures.reads in
+    let v = c.args.verity.now in
+    let tree = c.args.tree.now in
+    let w = c.args.wanted.now in
+    let place = place_in v tree w.block in
+    let fault = c.in-Err.own in
+    let does = DeviceDoes g.D.BlockDev.state g.D.BlockDev.does in
+    let own = reads-expected hash_of (ap (λ (e : Extent). expected_in e v.salt w.digest) c.hash_extent-extent.ensures.value) c.in-Err.ensures.given in
+    let given = subst (λ (k : ℕ). ReadsBy does c.args.config.now (spare_of (place_in v tree k) w.digest) (served c.hash_block.new.backing) healed.read (block_answer healed.spare)) c.hash_number-number.ensures healed.given in
+    subst (λ (r : Result (List ℕ) IoFault). ReadsBy does c.args.config.now (way_of place w.level w.digest) (served c.args.backing.now) (served c.heal.new.backing) r)
+    (healed-bytes fault healed.spare ∙ ap block_answer (sym healed.is))
+    (subst (λ s. ReadsBy does c.args.config.now (way_of place w.level w.digest) (served c.args.backing.now) s (healed_result fault (block_answer healed.spare))) (sym healed.counted)
+    (way-healed (sym c.can_heal.ensures ∙ c.if-can_heal.true) own given))
+
+pub way_block-returns-else-can_heal-clause-reads : goal.way_block-returns-else-can_heal-clause-reads
+way_block-returns-else-can_heal-clause-reads g t c =
+    let w = c.args.wanted.now in
+    way-settled c.args.config.now c.args.verity.now c.args.tree.now w.level w.block c.requires.stack.sound.loaded c.requires.block.lies c.requires.block.there c.requires.level w.digest c.hash_extent-extent.result c.hash_extent-extent.ensures
+    c.in-Err.own (sym c.can_heal.ensures ∙ c.if-can_heal.false) c.in-Err.ensures.reads
+
+pub way_block-returns-else-can_heal-clause-touches : goal.way_block-returns-else-can_heal-clause-touches
+way_block-returns-else-can_heal-clause-touches g t c =
+    hash-touched c.args.config.now c.args.verity.now c.args.tree.now c.requires.stack.sound.loaded c.requires.block.lies c.hash_extent-extent.result c.hash_extent-extent.ensures c.in-Err.ensures.touches
+
+pub way_block-returns-else-can_heal-clause-given : goal.way_block-returns-else-can_heal-clause-given
+way_block-returns-else-can_heal-clause-given g t c =
+    way-had (sym c.can_heal.ensures ∙ c.if-can_heal.false) (reads-expected hash_of (ap (λ (e : Extent). expected_in e c.args.verity.now.salt c.args.wanted.now.digest) c.hash_extent-extent.ensures.value) c.in-Err.ensures.given)

@@ -4,13 +4,14 @@ use Rattle.stack_rules.specs.Names.{mapped}
 use Rattle.stack_rules.specs.Trees.{zero_block}
 use Rattle.stack_rules.specs.Descend.{depth}
 use Rattle.block_device.specs.Call.{DeviceDoes}
-use Rattle.stack_engine.specs.SectorCalls.{DataRead, LeadsTo, data_of, last_bytes, one_block, place_in, sums_of, whole_data}
+use Rattle.stack_engine.specs.SectorCalls.{DataRead, LeadsTo, data_of, last_bytes, one_asked, place_in, sums_of, whole_data}
 use Rattle.stack_engine.proofs.lemmas.MendLemmas.{IsSummed}
 use Rattle.stack_engine.proofs.BlockCallLemmas.{BlocksUpTo}
 use Rattle.stack_engine.proofs.SectorCallLemmas.{GivesUpTo}
 use Rattle.stack_lines.specs.Sources.{source_depth}
 use Rattle.stack_lines.specs.Walks.{block_in, IsWalked}
-use Rattle.stack_lines.specs.Caches.{IsCached, KeepsCache}
+use Rattle.stack_lines.specs.Caches.{KeepsCache}
+use Rattle.stack_engine.specs.Held.{IsHeld}
 use Rattle.stack_lines.specs.Touches.{AsksOnly, leaves_of}
 use Rattle.stack_engine.specs.Healing.{HasNoParity}
 use Rattle.stack_engine.proofs.SpentLemmas.{IsCutBehind}
@@ -21,8 +22,8 @@ use Rattle.stack_engine.specs.ReadSteps.{run_beneath, IsReadStep}
 use Rattle.stack_engine.proofs.read.+read.Given as goal
 
 -- 16 times the depth and a rank, of which 0 to 6 are left for the steps of a target: part of a unit takes 4, whole units 3,
--- a data block 6, the walk to it 5, its last step and a block of a row 4, healing 3, its spare 2, a step of that 1, a hash block 16 times its own depth
--- and 11, and a block that is checked 16 times its own depth and 10
+-- a data block 6, the walk to it 5, its last step, a block of a row and a step of a path 4, reading it or a hash block on the way 3, healing 2, a spare 1, a step of
+-- that 0, a hash block that may be kept 16 times its own depth and 11, and a block that is checked 16 times its own depth and 10
 
 abbrev pub decreases-read_lower : goal.decreases-read_lower
 decreases-read_lower g l = 16 * depth l.config.now l.from.0 + 9
@@ -63,6 +64,9 @@ decreases-walk g l = 16 * depth l.config.now (mapped l.tree.now.device.0) + 5
 abbrev pub decreases-read_data : goal.decreases-read_data
 decreases-read_data g l = 16 * depth l.config.now (mapped l.tree.now.device.0) + 4
 
+abbrev pub decreases-fetch_data : goal.decreases-fetch_data
+decreases-fetch_data g l = 16 * depth l.config.now (mapped l.tree.now.device.0) + 3
+
 abbrev pub decreases-hash_block : goal.decreases-hash_block
 decreases-hash_block g l = 16 * depth l.config.now l.extent.lower + 11
 
@@ -76,7 +80,7 @@ invariant-walk-loop-level g l = record {
       (map g.D.BlockDev.state l.fn.backing.devices.items) (map g.D.BlockDev.state l.backing.devices.items);
   cached : KeepsCache l.config (map g.D.BlockDev.state l.backing.devices.items) l.fn.backing.cache l.backing.cache;
   touches : AsksOnly {A = Unit {0}} (HasNoParity l.config) (leaves_of l.config (mapped l.tree.device.0)) (map g.D.BlockDev.state l.fn.backing.devices.items) (map g.D.BlockDev.state l.backing.devices.items) (Ok tt);
-  given : (last : List ℕ) × LeadsTo (DeviceDoes g.D.BlockDev.state g.D.BlockDev.does) l.config (whole_data (place_in l.verity l.tree l.index) one_block) (data_of (place_in l.verity l.tree l.index) l.level l.expected last one_block)
+  given : (last : List ℕ) × LeadsTo (DeviceDoes g.D.BlockDev.state g.D.BlockDev.does) l.config (whole_data (place_in l.verity l.tree l.index) (one_asked l.part)) (data_of (place_in l.verity l.tree l.index) l.level l.expected last (one_asked l.part))
       (served l.fn.backing) (served l.backing);
 }
 
@@ -84,7 +88,10 @@ abbrev pub decreases-walk-loop-level : goal.decreases-walk-loop-level
 decreases-walk-loop-level g l = l.level
 
 abbrev pub decreases-path_block : goal.decreases-path_block
-decreases-path_block g l = 16 * depth l.config.now l.tree.now.hash + 12
+decreases-path_block g l = 16 * depth l.config.now (mapped l.tree.now.device.0) + 4
+
+abbrev pub decreases-way_block : goal.decreases-way_block
+decreases-way_block g l = 16 * depth l.config.now (mapped l.tree.now.device.0) + 3
 
 abbrev pub decreases-walk_path : goal.decreases-walk_path
 decreases-walk_path g l = 16 * depth l.config.now (mapped l.tree.now.device.0) + 5
@@ -98,9 +105,9 @@ invariant-walk_path-loop-left g l = record {
   within : l.at ≤ length l.path.items;
   walked : IsWalked (block_in l.config l.verity l.index) l.left l.digest (map (λ b. b.bytes) (take l.at l.path.items))
       (map g.D.BlockDev.state l.fn.backing.devices.items) (map g.D.BlockDev.state l.backing.devices.items);
-  held : All (IsCached l.config (map g.D.BlockDev.state l.backing.devices.items)) l.path.items;
+  held : All (IsHeld l.config (map g.D.BlockDev.state l.backing.devices.items)) l.path.items;
   cached : KeepsCache l.config (map g.D.BlockDev.state l.backing.devices.items) l.fn.backing.cache l.backing.cache;
-  touches : AsksOnly {A = Unit {0}} (HasNoParity l.config) (leaves_of l.config l.tree.hash) (map g.D.BlockDev.state l.fn.backing.devices.items) (map g.D.BlockDev.state l.backing.devices.items) (Ok tt);
+  touches : AsksOnly {A = Unit {0}} (HasNoParity l.config) (leaves_of l.config (mapped l.tree.device.0)) (map g.D.BlockDev.state l.fn.backing.devices.items) (map g.D.BlockDev.state l.backing.devices.items) (Ok tt);
   given : (next : DataRead) → LeadsTo (DeviceDoes g.D.BlockDev.state g.D.BlockDev.does) l.config (whole_data (place_in l.verity l.tree l.index) next)
       (data_of (place_in l.verity l.tree l.index) l.left l.digest (last_bytes (take l.at l.path.items)) next) (served l.fn.backing) (served l.backing);
 }
@@ -125,19 +132,19 @@ abbrev pub decreases-read_blocks-checks : goal.decreases-read_blocks-checks
 decreases-read_blocks-checks g l = l.count - l.at
 
 abbrev pub decreases-add_other : goal.decreases-add_other
-decreases-add_other g l = 16 * depth l.config.now (mapped l.tree.now.device.0) + 1
+decreases-add_other g l = 16 * depth l.config.now (mapped l.tree.now.device.0)
 
 abbrev pub decreases-add_parity : goal.decreases-add_parity
-decreases-add_parity g l = 16 * depth l.config.now (mapped l.tree.now.device.0) + 1
+decreases-add_parity g l = 16 * depth l.config.now (mapped l.tree.now.device.0)
 
 abbrev pub decreases-mend : goal.decreases-mend
-decreases-mend g l = 16 * depth l.config.now (mapped l.tree.now.device.0) + 2
+decreases-mend g l = 16 * depth l.config.now (mapped l.tree.now.device.0) + 1
 
 abbrev pub decreases-settle_block : goal.decreases-settle_block
 decreases-settle_block g l = 16 * depth l.config.now (mapped l.tree.now.device.0) + 4
 
 abbrev pub decreases-heal : goal.decreases-heal
-decreases-heal g l = 16 * depth l.config.now (mapped l.tree.now.device.0) + 3
+decreases-heal g l = 16 * depth l.config.now (mapped l.tree.now.device.0) + 2
 
 -- the blocks at the positions so far were added
 abbrev pub invariant-mend-loop-place : goal.invariant-mend-loop-place

@@ -503,6 +503,7 @@ write_units-returns-then-lower_cuts-clause-step g t c =
       cached = wrote.step.cached;
       uncounted = wrote.step.uncounted;
       forgets = wrote.step.forgets;
+      drops = wrote.step.drops;
     }
 
 pub write_units-returns-in-Err-clause-step : goal.write_units-returns-in-Err-clause-step

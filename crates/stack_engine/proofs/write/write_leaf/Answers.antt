@@ -1,4 +1,4 @@
-use Rattle.std.proofs.Common.{◌≡◌, ◌/◌, map, length, refl, sym, ap, ◌∙◌, subst, ℕ}
+use Rattle.std.proofs.Common.{◌≡◌, ◌/◌, map, length, inr, refl, sym, ap, ◌∙◌, subst, ℕ}
 use Rattle.std.proofs.lemmas.List.{with_items_is}
 use Rattle.std.specs.Vec.{with_items}
 use Rattle.std.specs.Prelude.{is_ok}
@@ -6,6 +6,7 @@ use Rattle.block_device.specs.Call.{DeviceDoes, Write}
 use Rattle.stack_rules.specs.declared.lower.Lower.TheVariants.{Leaf}
 use Rattle.verified_cache.specs.Cache.{CacheRecord}
 use Rattle.stack_lines.proofs.lemmas.KeptLemmas.{forgets-leaf}
+use Rattle.stack_lines.specs.Caches.{StackCache}
 use Rattle.stack_lines.specs.Writing.{sectors_in, destination_of, WritesSectors}
 use Rattle.stack_lines.proofs.lemmas.WriteRunLemmas.{length-sectors_in}
 use Rattle.stack_engine.proofs.CachedLemmas.{keeps-written}
@@ -32,9 +33,10 @@ returns-clause-step g c =
     subst (λ ds. IsWriteStep config (write_beneath config (Leaf leaf) c.args.first n) (backing_of state c.args.backing.now) (record { leaves = map state ds; cache = after; restored = c.args.backing.now.restored })) (sym stands) (record {
       uncut = λ cuts. wrote.unread (leaf-plain config leaf c.args.first _);
       paid = λ k. leaf-paid config k leaf c.args.first n (sectors_in bytes) (map state devices.items) (map state new) c.write_sectors.result (length-sectors_in bytes) wrote;
-      cached = keeps-written config leaf c.args.first _ _ (map state devices.items) (map state new) cache after wrote.moved c.requires.stack.cached c.forget_leaf.ensures.blocks c.forget_leaf.ensures.sets c.forget_leaf.ensures.covers;
+      cached = keeps-written config leaf c.args.first _ _ (map state devices.items) (map state new) cache after wrote.moved c.requires.stack.cached c.forget_leaf.ensures.blocks c.forget_leaf.ensures.rest c.forget_leaf.ensures.covers;
       uncounted = refl;
       forgets = forgets-leaf config leaf c.args.first _ (map state devices.items) (map state new) cache.blocks.blocks after.blocks.blocks wrote.moved.others (ap (λ (k : CacheRecord). k.blocks) c.forget_leaf.ensures.blocks);
+      drops = record { is = inr (ap (λ (k : StackCache). k.last) c.forget_leaf.ensures.rest) };
     })
 
 pub returns-clause-call : goal.returns-clause-call

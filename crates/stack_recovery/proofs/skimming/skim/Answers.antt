@@ -3,7 +3,7 @@ use Rattle.block_device.specs.Call.{DeviceDoes}
 use Rattle.rescue_map.specs.Maps.{marks}
 use Rattle.stack_recovery.specs.declared.fault.RecoveryFault.{RecoveryFault}
 use Rattle.stack_recovery.specs.declared.skimming.Skimmed.{Skimmed}
-use Rattle.stack_recovery.specs.FirstPasses.{EndsSkim, HandsSkimsPart, HandsSkimsUntil, SkimsUntil, transfer}
+use Rattle.stack_recovery.specs.FirstPasses.{EndsSkim, HandsSkimsPart, HandsSkimsUntil, SkimsUntil, skipping_of, transfer}
 use Rattle.stack_recovery.specs.LeafReads.{CopiesOver}
 use Rattle.stack_recovery.proofs.skimming.skim.Goals as goal
 
@@ -11,13 +11,13 @@ pub returns-clause-ok : goal.returns-clause-ok
 returns-clause-ok g c =
     let old = transfer c.args.stack.now (g.O.BlockDev.state c.args.out.now) in
     let new = transfer c.skim_ahead.new.stack (g.O.BlockDev.state c.skim_ahead.new.out) in
-    subst (λ (l : List Bool). IfOk c.skim_ahead.result (λ (made : Skimmed). SkimsUntil c.args.pass.deadline c.args.pass.skip l c.args.pass.device.0 old made new)) c.of_map.ensures.marks c.skim_ahead.ensures.ok
+    subst (λ (l : List Bool). IfOk c.skim_ahead.result (λ (made : Skimmed). SkimsUntil c.args.pass.deadline (skipping_of c.args.pass) l c.args.pass.device.0 old made new)) c.of_map.ensures.marks c.skim_ahead.ensures.ok
 
 pub returns-clause-err : goal.returns-clause-err
 returns-clause-err g c =
     let old = transfer c.args.stack.now (g.O.BlockDev.state c.args.out.now) in
     let new = transfer c.skim_ahead.new.stack (g.O.BlockDev.state c.skim_ahead.new.out) in
-    subst (λ (l : List Bool). IfErr c.skim_ahead.result (λ (fault : RecoveryFault). EndsSkim c.args.pass.skip l c.args.pass.device.0 old new fault)) c.of_map.ensures.marks c.skim_ahead.ensures.err
+    subst (λ (l : List Bool). IfErr c.skim_ahead.result (λ (fault : RecoveryFault). EndsSkim (skipping_of c.args.pass) l c.args.pass.device.0 old new fault)) c.of_map.ensures.marks c.skim_ahead.ensures.err
 
 pub returns-clause-handed : goal.returns-clause-handed
 returns-clause-handed g c =

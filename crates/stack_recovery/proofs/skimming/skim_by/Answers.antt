@@ -1,4 +1,4 @@
-use Rattle.std.proofs.Common.{◌≡◌, ◌⊎◌, ◌+◌, ◌-◌, ◌≤◌, ◌<◌, ◌*◌, ◌/◌, ◌^◌, ℕ, min, Bool, true, false, List, ◌++◌, replicate, Ok, Err, IsErrAnd, arith, refl, sym, ◌∙◌, ap, subst, length, take, inl, inr}
+use Rattle.std.proofs.Common.{◌≡◌, ◌⊎◌, ◌+◌, ◌-◌, ◌≤◌, ◌<◌, ◌*◌, ◌/◌, ◌^◌, ℕ, min, Bool, true, false, List, ◌++◌, replicate, Ok, Err, IsErrAnd, arith, refl, sym, ◌∙◌, ap, subst, length, take, inl, inr, append_assoc}
 use Rattle.std.proofs.lemmas.Bool.{false≢true}
 use Rattle.std.proofs.lemmas.List.{length-take-le}
 use Rattle.std.proofs.lemmas.Result.{err_from_is_err_and}
@@ -9,21 +9,21 @@ use Rattle.stack_rules.specs.Records.{Configuration}
 use Rattle.stack_engine.specs.Bytes.{EachBytes}
 use Rattle.stack_meaning.specs.declared.fault.IoFault.{IoFault}
 use Rattle.rescue_map.specs.Aheads.{marks_ahead}
-use Rattle.rescue_map.specs.Maps.{marks}
+use Rattle.rescue_map.specs.Maps.{losts, marks}
 use Rattle.rescue_map.specs.declared.map.Run.{Run}
 use Rattle.stack_recovery.specs.declared.fault.RecoveryFault.{RecoveryFault}
 use Rattle.stack_recovery.specs.declared.fault.RecoveryFault.TheVariants.{NoMemory, Output}
-use Rattle.stack_recovery.specs.FirstPasses.{transfer}
-use Rattle.stack_recovery.specs.LeafReads.{CopiesLeaves, no_piece, piece_failed, sectors_had}
+use Rattle.stack_recovery.specs.FirstPasses.{skipping_of, transfer}
+use Rattle.stack_recovery.specs.LeafReads.{CopiesLeaves, no_piece, sectors_had}
 use Rattle.stack_recovery.specs.PassPieces.{IsNextPiece, pass_over}
 use Rattle.stack_recovery.specs.Pieces.{EndsAligned}
 use Rattle.stack_recovery.specs.Skims.{IsSkimFound}
-use Rattle.stack_recovery.specs.Skips.{least_skip, longer_skip, most_skip}
 use Rattle.stack_recovery.specs.Stretches.{BeginsOtherwise}
 use Rattle.stack_recovery.specs.Surveys.{AreMarked, again}
 use Rattle.stack_recovery.proofs.AheadLemmas.{ahead-few, ahead-inside, ahead-next, ahead-some, first-run, marked-next}
-use Rattle.stack_recovery.proofs.LeafReadLemmas.{copies-again, copies-had}
+use Rattle.stack_recovery.proofs.LeafReadLemmas.{copies-again, copies-failed, copies-had}
 use Rattle.stack_recovery.proofs.PieceLemmas.{next-piece, skipped-piece}
+use Rattle.stack_recovery.proofs.SurveyLemmas.{no-memory}
 use Rattle.stack_recovery.proofs.SkimLemmas.{IsSkimming, fails-skim, hands-short, hands-skims, hands-unwritten, skim-room, skimming-had, skimming-kept, skimming-none, skimming-skipped, skims-short, skims-until}
 use Rattle.stack_recovery.proofs.lemmas.WritingLemmas.{err-from}
 use Rattle.stack_recovery.proofs.skimming.skim_by.Goals as goal
@@ -32,8 +32,8 @@ pub pieces-init : goal.pieces-init
 pieces-init g c =
     let all = c.sectors-sectors.ensures ∙ ap (λ (x : Configuration). size x (mapped c.args.pass.device.0)) c.config.ensures.value in
     record {
-      so_far = subst (λ (m : List Run). IsSkimming g.O.BlockDev.state (DeviceDoes g.O.BlockDev.state g.O.BlockDev.does) c.args.pass.skip (marks_ahead c.args.ahead) c.args.pass.device.0 (transfer c.args.stack.now c.args.out.now) (transfer c.args.stack.now c.args.out.now) 0 m c.args.pass.skip) (sym c.requires.begun)
-          (skimming-none g.O.BlockDev.state (DeviceDoes g.O.BlockDev.state g.O.BlockDev.does) c.args.pass.skip (marks_ahead c.args.ahead) c.args.pass.device.0 (transfer c.args.stack.now c.args.out.now));
+      so_far = subst (λ (m : List Run). IsSkimming g.O.BlockDev.state (DeviceDoes g.O.BlockDev.state g.O.BlockDev.does) (skipping_of c.args.pass) (marks_ahead c.args.ahead) c.args.pass.device.0 (transfer c.args.stack.now c.args.out.now) (transfer c.args.stack.now c.args.out.now) 0 m c.args.pass.skip) (sym c.requires.begun)
+          (skimming-none g.O.BlockDev.state (DeviceDoes g.O.BlockDev.state g.O.BlockDev.does) (skipping_of c.args.pass) (marks_ahead c.args.ahead) c.args.pass.device.0 (transfer c.args.stack.now c.args.out.now));
       called = no_piece;
       ahead = refl;
       config = refl;
@@ -206,9 +206,9 @@ pieces-preserved-in-Ok g c =
     inside u.all (subst (λ (h : Bool). BeginsOtherwise h (marks c.next_stretch-run.new.ahead.rest.now)) c.if-run.false c.next_stretch-run.ensures.longest)
     (subst (λ (x : Configuration). EndsAligned x c.args.pass.device.0 c.pieces.at (c.pieces.at + here.count) 128 n) (c.config-else-run.ensures.value ∙ u.config) c.piece_at-piece.ensures.ends) in
     record {
-      so_far = subst (λ (m : ℕ). IsSkimming g.O.BlockDev.state (DeviceDoes g.O.BlockDev.state g.O.BlockDev.does) c.args.pass.skip before c.args.pass.device.0 (transfer c.args.stack.now c.args.out.now) (transfer c.read_bytes.new.self c.write.new.self) (c.pieces.at + m) c.mark-in-Ok.new.map least_skip) (sym same)
-          (skimming-had _ _ _ _ _ _ _ _ _ _ u.so_far n bytes c.read_bytes.new.self k _ c.write.new.self c.mark-in-Ok.new.map next piece marked (rw same at c.in_ok-mark-in-Ok.ensures.ok) (rw same at c.in_ok-mark-in-Ok.ensures.lost) count
-          c.in_ok-write-in-Ok.ensures.moved c.in_ok-write-in-Ok.ensures.image c.in_ok-write-in-Ok.ensures.call);
+      so_far = subst (λ (m : ℕ). IsSkimming g.O.BlockDev.state (DeviceDoes g.O.BlockDev.state g.O.BlockDev.does) (skipping_of c.args.pass) before c.args.pass.device.0 (transfer c.args.stack.now c.args.out.now) (transfer c.read_bytes.new.self c.write.new.self) (c.pieces.at + m) c.mark-in-Ok.new.map c.min-skip.result) (sym same)
+          (rw c.min-skip.ensures (skimming-had _ _ _ _ _ _ _ _ _ _ u.so_far n bytes c.read_bytes.new.self k _ c.write.new.self c.mark-in-Ok.new.map next piece marked (rw same at c.in_ok-mark-in-Ok.ensures.ok) (rw same at c.in_ok-mark-in-Ok.ensures.lost) count
+          c.in_ok-write-in-Ok.ensures.moved c.in_ok-write-in-Ok.ensures.image c.in_ok-write-in-Ok.ensures.call));
       called = copies-had g.D.BlockDev.state g.D.BlockDev.does (DeviceDoes g.O.BlockDev.state g.O.BlockDev.does) before c.args.pass.device.0 c.args.stack.now c.args.out.now c.pieces.at c.pieces.stack c.read_bytes.new.self c.pieces.out u.called (length (take (n * 512) c.pieces.room) / 512) c.from-count.result bytes c.write.new.self (number ∙ sym same) c.in-Ok.ensures.given c.in_ok-write-in-Ok.ensures.call;
       ahead = ahead-next before c.pieces.at c.from-count.result _ _ _ (u.ahead ∙ sym c.next_stretch-run.ensures.same) c.pass-in-Ok.ensures.marks;
       config = c.in-Ok.ensures.any.config ∙ u.config;
@@ -224,40 +224,46 @@ returns-in_err-check_memory-in-Err-clause-err g c =
     let count : ℕ = length (take (c.piece_at-piece.result.count * 512) c.pieces.room) / 512 in
     let is = c.in_err-check_memory-in-Err.ensures.memory in
     err-from c.from_residual-in_err-check_memory-in-Err.result _ NoMemory (subst (λ (e : RecoveryFault). IsErrAnd c.from_residual-in_err-check_memory-in-Err.result (λ f. f ≡ e)) c.in_err-check_memory-in-Err.ensures.err c.from_residual-in_err-check_memory-in-Err.ensures.1)
-    (skims-short _ _ _ _ _ _ _ _ _ _ u.so_far c.read_bytes.new.self u.unfailed (inl (record {
-      count = count;
-      answered = subst (λ (f : IoFault). EachBytes c.pieces.stack c.args.pass.device.0 c.pieces.at count (Err f) c.read_bytes.new.self) is (record { any = c.in-Err.ensures.any; steady = c.in-Err.ensures.steady });
-      met = c.in-Err.ensures.memory (ap Err is);
-    })))
+    (skims-short _ _ _ _ _ _ _ _ _ _ u.so_far c.read_bytes.new.self u.unfailed (inl (no-memory c.args.pass.device.0 c.pieces.at count c.pieces.stack c.read_bytes.new.self
+    (subst (λ (f : IoFault). EachBytes c.pieces.stack c.args.pass.device.0 c.pieces.at count (Err f) c.read_bytes.new.self) is (record { any = c.in-Err.ensures.any; steady = c.in-Err.ensures.steady }))
+    (c.in-Err.ensures.memory (ap Err is)))))
 
 pub returns-in_err-check_memory-in-Err-clause-stopped : goal.returns-in_err-check_memory-in-Err-clause-stopped
 returns-in_err-check_memory-in-Err-clause-stopped g c =
     err-from c.from_residual-in_err-check_memory-in-Err.result _ NoMemory (subst (λ (e : RecoveryFault). IsErrAnd c.from_residual-in_err-check_memory-in-Err.result (λ f. f ≡ e)) c.in_err-check_memory-in-Err.ensures.err c.from_residual-in_err-check_memory-in-Err.ensures.1)
     (hands-short _ _ _ _ _ _ _ _ _ _ c.pieces.invariant.so_far c.read_bytes.new.self)
 
-pub mark-requires-in-Err-clause-room : goal.mark-requires-in-Err-clause-room
-mark-requires-in-Err-clause-room g c =
+pub leave-requires-clause-room : goal.leave-requires-clause-room
+leave-requires-clause-room g c =
     let u = c.pieces.invariant in
     let first = first-run c.pieces.ahead c.next_stretch-run.new.ahead c.next_stretch-run.result c.next_stretch-run.ensures.same c.next_stretch-run.ensures.first in
     let inside = ahead-inside (marks_ahead c.args.ahead) c.pieces.at c.sectors-sectors.result c.next_stretch-run.result.count c.next_stretch-run.result.had _ _ (c.requires.fits ∙ sym u.all) u.ahead first u.within in
-    skim-room _ _ _ _ _ _ _ _ _ _ u.so_far (c.from-count.result + c.min.result) (omega (arith, inside, u.few, c.from-count.ensures, c.min.ensures, c.piece_at-piece.ensures.inside))
+    let room = skim-room _ _ _ _ _ _ _ _ _ _ u.so_far (c.from-count.result + c.min-skipped.result) (omega (arith, inside, u.few, c.from-count.ensures, c.min-skipped.ensures, c.piece_at-piece.ensures.inside)) in
+    omega (arith, room)
 
 pub overflow_add-at-in-Err : goal.overflow_add-at-in-Err
 overflow_add-at-in-Err g c =
     let u = c.pieces.invariant in
     let first = first-run c.pieces.ahead c.next_stretch-run.new.ahead c.next_stretch-run.result c.next_stretch-run.ensures.same c.next_stretch-run.ensures.first in
     let inside = ahead-inside (marks_ahead c.args.ahead) c.pieces.at c.sectors-sectors.result c.next_stretch-run.result.count c.next_stretch-run.result.had _ _ (c.requires.fits ∙ sym u.all) u.ahead first u.within in
-    omega (arith, inside, u.few, c.from-count.ensures, c.min.ensures, c.piece_at-piece.ensures.inside)
+    omega (arith, inside, u.few, c.from-count.ensures, c.min-skipped.ensures, c.piece_at-piece.ensures.inside)
 
-pub returns-in_err-mark-in-Err-clause-err : goal.returns-in_err-mark-in-Err-clause-err
-returns-in_err-mark-in-Err-clause-err g c =
+pub overflow_add-at-in-Err-2 : goal.overflow_add-at-in-Err-2
+overflow_add-at-in-Err-2 g c =
     let u = c.pieces.invariant in
-    err-from c.from_residual-in_err-mark-in-Err.result _ NoMemory (subst (λ (e : RecoveryFault). IsErrAnd c.from_residual-in_err-mark-in-Err.result (λ f. f ≡ e)) c.in_err-mark-in-Err.ensures.err.0 c.from_residual-in_err-mark-in-Err.ensures.1)
-    (skims-short _ _ _ _ _ _ _ _ _ _ u.so_far c.read_bytes.new.self u.unfailed (inr c.in_err-mark-in-Err.ensures.err.1))
+    let first = first-run c.pieces.ahead c.next_stretch-run.new.ahead c.next_stretch-run.result c.next_stretch-run.ensures.same c.next_stretch-run.ensures.first in
+    let inside = ahead-inside (marks_ahead c.args.ahead) c.pieces.at c.sectors-sectors.result c.next_stretch-run.result.count c.next_stretch-run.result.had _ _ (c.requires.fits ∙ sym u.all) u.ahead first u.within in
+    omega (arith, inside, u.few, c.from-count.ensures, c.min-skipped.ensures, c.piece_at-piece.ensures.inside)
 
-pub returns-in_err-mark-in-Err-clause-stopped : goal.returns-in_err-mark-in-Err-clause-stopped
-returns-in_err-mark-in-Err-clause-stopped g c =
-    err-from c.from_residual-in_err-mark-in-Err.result _ NoMemory (subst (λ (e : RecoveryFault). IsErrAnd c.from_residual-in_err-mark-in-Err.result (λ f. f ≡ e)) c.in_err-mark-in-Err.ensures.err.0 c.from_residual-in_err-mark-in-Err.ensures.1)
+pub returns-in_err-leave-in-Err-clause-err : goal.returns-in_err-leave-in-Err-clause-err
+returns-in_err-leave-in-Err-clause-err g c =
+    let u = c.pieces.invariant in
+    err-from c.from_residual-in_err-leave-in-Err.result _ NoMemory (subst (λ (e : RecoveryFault). IsErrAnd c.from_residual-in_err-leave-in-Err.result (λ f. f ≡ e)) c.in_err-leave-in-Err.ensures.err.0 c.from_residual-in_err-leave-in-Err.ensures.1)
+    (skims-short _ _ _ _ _ _ _ _ _ _ u.so_far c.read_bytes.new.self u.unfailed (inr c.in_err-leave-in-Err.ensures.err.1))
+
+pub returns-in_err-leave-in-Err-clause-stopped : goal.returns-in_err-leave-in-Err-clause-stopped
+returns-in_err-leave-in-Err-clause-stopped g c =
+    err-from c.from_residual-in_err-leave-in-Err.result _ NoMemory (subst (λ (e : RecoveryFault). IsErrAnd c.from_residual-in_err-leave-in-Err.result (λ f. f ≡ e)) c.in_err-leave-in-Err.ensures.err.0 c.from_residual-in_err-leave-in-Err.ensures.1)
     (hands-short _ _ _ _ _ _ _ _ _ _ c.pieces.invariant.so_far c.read_bytes.new.self)
 
 pub pieces-preserved : goal.pieces-preserved
@@ -273,18 +279,16 @@ pieces-preserved g c =
     let number : length (take (n * 512) c.pieces.room) / 512 ≡ n = omega (arith, wide) in
     let piece = subst (λ (m : ℕ). EachBytes c.pieces.stack c.args.pass.device.0 c.pieces.at m (Err c.in-Err.fault) c.read_bytes.new.self) number (record { any = c.in-Err.ensures.any; steady = c.in-Err.ensures.steady }) in
     let same : c.from-count.result ≡ n = c.from-count.ensures in
-    let skip : ℕ = c.min.result in
-    let skipped : skip ≡ min c.pieces.skip (here.count - n) = c.min.ensures ∙ ap (λ (m : ℕ). min c.pieces.skip (here.count - m)) same in
+    let skip : ℕ = c.min-skipped.result in
+    let skipped : skip ≡ min c.pieces.skip (here.count - n) = c.min-skipped.ensures ∙ ap (λ (m : ℕ). min c.pieces.skip (here.count - m)) same in
     let found : IsSkimFound (pass_over c.args.stack.now.config c.args.pass.device.0 before) c.pieces.at c.pieces.skip n (again c.in-Err.fault) skip =
     skipped-piece c.args.stack.now.config c.args.pass.device.0 before c.pieces.at here.count c.sectors-sectors.result n c.pieces.skip skip c.in-Err.fault (marks c.next_stretch-run.new.ahead.rest.now) c.in_ok-check_memory-in-Err.ensures.ok
     (u.ahead ∙ subst (λ (h : Bool). marks_ahead c.pieces.ahead ≡ replicate here.count h ++ marks c.next_stretch-run.new.ahead.rest.now) c.if-run.false first) (c.requires.fits ∙ sym u.all) u.within
     inside u.all (subst (λ (h : Bool). BeginsOtherwise h (marks c.next_stretch-run.new.ahead.rest.now)) c.if-run.false c.next_stretch-run.ensures.longest)
     (subst (λ (x : Configuration). EndsAligned x c.args.pass.device.0 c.pieces.at (c.pieces.at + here.count) 128 n) (c.config-else-run.ensures.value ∙ u.config) c.piece_at-piece.ensures.ends) skipped in
-    let most : c.most_skip-most.result ≡ most_skip (size c.args.stack.now.config (mapped c.args.pass.device.0)) = c.most_skip-most.ensures.value ∙ ap most_skip u.all in
-    let longer : c.longer_skip-skip.result ≡ longer_skip (most_skip (size c.args.stack.now.config (mapped c.args.pass.device.0))) c.pieces.skip = c.longer_skip-skip.ensures ∙ ap (λ (m : ℕ). longer_skip m c.pieces.skip) most in
     record {
-      so_far = rw (same, longer) (skimming-skipped _ _ _ _ _ _ _ _ _ _ u.so_far n skip c.in-Err.fault c.read_bytes.new.self c.mark-in-Err.new.map found piece marked (rw same at c.in_ok-mark-in-Err.ensures.ok) (rw same at c.in_ok-mark-in-Err.ensures.lost));
-      called = piece_failed (length (take (n * 512) c.pieces.room) / 512) (c.from-count.result + skip) c.in-Err.fault u.called c.in-Err.ensures.given;
+      so_far = rw (same, c.longer_skip-skip.ensures) (skimming-skipped _ _ _ _ _ _ _ _ _ _ u.so_far n skip c.in-Err.fault c.read_bytes.new.self c.leave.new.map found piece marked ((rw same at c.in_ok-leave-in-Err.ensures.ok) ∙ append_assoc (marks c.pieces.map) (replicate n false) (replicate skip false)) ((rw same at c.in_ok-leave-in-Err.ensures.failed) ∙ append_assoc (losts c.pieces.map) (replicate n true) (replicate skip false)));
+      called = copies-failed g.D.BlockDev.state g.D.BlockDev.does (DeviceDoes g.O.BlockDev.state g.O.BlockDev.does) before c.args.pass.device.0 c.args.stack.now c.args.out.now c.pieces.at c.pieces.stack c.read_bytes.new.self c.pieces.out u.called (length (take (n * 512) c.pieces.room) / 512) (c.from-count.result + skip) c.in-Err.fault c.in-Err.ensures.given;
       ahead = ahead-next before c.pieces.at (c.from-count.result + skip) _ _ _ (u.ahead ∙ sym c.next_stretch-run.ensures.same) c.pass-in-Err.ensures.marks;
       config = c.in-Err.ensures.any.config ∙ u.config;
       within = omega (arith, inside, same, skipped, c.piece_at-piece.ensures.inside);
@@ -333,9 +337,9 @@ returns-in_err-check_memory-in-Err-clause-called g c =
     let p = err_from_is_err_and c.from_residual-in_err-check_memory-in-Err.result c.from_residual-in_err-check_memory-in-Err.ensures.1 in
     rw p.1 (inl (c.pieces.at, copies-again g.D.BlockDev.state g.D.BlockDev.does (DeviceDoes g.O.BlockDev.state g.O.BlockDev.does) (marks_ahead c.args.ahead) c.args.pass.device.0 c.args.stack.now c.args.out.now c.pieces.at c.pieces.stack c.read_bytes.new.self c.pieces.out u.called count c.in-Err.fault c.in-Err.ensures.given))
 
-pub returns-in_err-mark-in-Err-clause-called : goal.returns-in_err-mark-in-Err-clause-called
-returns-in_err-mark-in-Err-clause-called g c =
+pub returns-in_err-leave-in-Err-clause-called : goal.returns-in_err-leave-in-Err-clause-called
+returns-in_err-leave-in-Err-clause-called g c =
     let u = c.pieces.invariant in
     let count : ℕ = length (take (c.piece_at-piece.result.count * 512) c.pieces.room) / 512 in
-    let p = err_from_is_err_and c.from_residual-in_err-mark-in-Err.result c.from_residual-in_err-mark-in-Err.ensures.1 in
+    let p = err_from_is_err_and c.from_residual-in_err-leave-in-Err.result c.from_residual-in_err-leave-in-Err.ensures.1 in
     rw p.1 (inl (c.pieces.at, copies-again g.D.BlockDev.state g.D.BlockDev.does (DeviceDoes g.O.BlockDev.state g.O.BlockDev.does) (marks_ahead c.args.ahead) c.args.pass.device.0 c.args.stack.now c.args.out.now c.pieces.at c.pieces.stack c.read_bytes.new.self c.pieces.out u.called count c.in-Err.fault c.in-Err.ensures.given))

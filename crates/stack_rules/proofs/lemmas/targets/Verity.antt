@@ -5,7 +5,7 @@ use Rattle.dm_table.specs.declared.table.Base.{Base}
 use Rattle.dm_table.specs.declared.verity.Verity.{Verity}
 use Rattle.dm_table.specs.declared.parity.Parity.{Parity}
 use Rattle.stack_rules.specs.TargetRules.{Range, cost_at, greatest}
-use Rattle.stack_rules.specs.Trees.{block_sectors, path_sectors, mend_sectors}
+use Rattle.stack_rules.specs.Trees.{block_sectors, path_blocks, path_sectors, mend_sectors}
 use Rattle.stack_rules.specs.targets.Verity.{verity, parity_bases, parity_ranges, mend_cost}
 use Rattle.stack_rules.proofs.lemmas.CostLaws.{AreCapped, at-capped, dearest-capped}
 use Rattle.stack_rules.proofs.lemmas.TargetLaws.{TargetLaws}
@@ -28,11 +28,11 @@ verity-laws line = record {
     read_covers = λ costs s p e. cc;
     write_covers = λ reads costs s p e. cc;
     read_caps = λ k xs ys same.
-        sum-capped k (block_sectors line * cost_at xs 0 + path_sectors line * cost_at xs 1) (block_sectors line * cost_at ys 0 + path_sectors line * cost_at ys 1) (mend_cost line line.parity xs) (mend_cost line line.parity ys)
+        sum-capped k (block_sectors line * cost_at xs 0 + path_sectors line * cost_at xs 1) (block_sectors line * cost_at ys 0 + path_sectors line * cost_at ys 1) (path_blocks line * mend_cost line line.parity xs) (path_blocks line * mend_cost line line.parity ys)
         (sum-capped k (block_sectors line * cost_at xs 0) (block_sectors line * cost_at ys 0) (path_sectors line * cost_at xs 1) (path_sectors line * cost_at ys 1)
         (product-capped k (block_sectors line) (cost_at xs 0) (cost_at ys 0) (at-capped k xs ys 0 same))
         (product-capped k (path_sectors line) (cost_at xs 1) (cost_at ys 1) (at-capped k xs ys 1 same)))
-        (mend-capped line line.parity k xs ys same);
+        (product-capped k (path_blocks line) (mend_cost line line.parity xs) (mend_cost line line.parity ys) (mend-capped line line.parity k xs ys same));
     write_caps = λ reads k xs ys same. refl;
     write_low = λ reads writes r b cheap low. omega arith;
   };

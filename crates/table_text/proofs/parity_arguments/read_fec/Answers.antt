@@ -12,29 +12,29 @@ pub returns-in_err-check_device : goal.returns-in_err-check_device
 unfolding fec_at
 returns-in_err-check_device c = exit_kind _ _ _ c.from_residual-in_err-check_device.ensures.1 (rw (c.in_ok-device.ensures, c.in_err-check_device.ensures) refl)
 
-pub returns-in_err-parity_value : goal.returns-in_err-parity_value
+pub returns-in_err-option_value : goal.returns-in_err-option_value
 unfolding fec_at
-returns-in_err-parity_value c = exit_kind _ _ _ c.from_residual-in_err-parity_value.ensures.1 (rw (c.in_ok-device.ensures, c.in_ok-check_device.ensures, c.in_err-parity_value.ensures) refl)
+returns-in_err-option_value c = exit_kind _ _ _ c.from_residual-in_err-option_value.ensures.1 (rw (c.in_ok-device.ensures, c.in_ok-check_device.ensures, c.in_err-option_value.ensures) refl)
 
 pub returns-in_err-roots : goal.returns-in_err-roots
 unfolding fec_at
-returns-in_err-roots c = exit_kind _ _ _ c.from_residual-in_err-roots.ensures.1 (rw (c.in_ok-device.ensures, c.in_ok-check_device.ensures, c.in_ok-parity_value.ensures, sym c.in_err-roots.ensures) refl)
+returns-in_err-roots c = exit_kind _ _ _ c.from_residual-in_err-roots.ensures.1 (rw (c.in_ok-device.ensures, c.in_ok-check_device.ensures, c.in_ok-option_value.ensures, sym c.in_err-roots.ensures) refl)
 
-pub returns-in_err-parity_value-2 : goal.returns-in_err-parity_value-2
+pub returns-in_err-option_value-2 : goal.returns-in_err-option_value-2
 unfolding fec_at
-returns-in_err-parity_value-2 c = exit_kind _ _ _ c.from_residual-in_err-parity_value-2.ensures.1 (rw (c.in_ok-device.ensures, c.in_ok-check_device.ensures, c.in_ok-parity_value.ensures, sym c.in_ok-roots.ensures, c.in_err-parity_value-2.ensures) refl)
+returns-in_err-option_value-2 c = exit_kind _ _ _ c.from_residual-in_err-option_value-2.ensures.1 (rw (c.in_ok-device.ensures, c.in_ok-check_device.ensures, c.in_ok-option_value.ensures, sym c.in_ok-roots.ensures, c.in_err-option_value-2.ensures) refl)
 
 pub returns-in_err-blocks : goal.returns-in_err-blocks
 unfolding fec_at
-returns-in_err-blocks c = exit_kind _ _ _ c.from_residual-in_err-blocks.ensures.1 (rw (c.in_ok-device.ensures, c.in_ok-check_device.ensures, c.in_ok-parity_value.ensures, sym c.in_ok-roots.ensures, c.in_ok-parity_value-2.ensures, sym c.in_err-blocks.ensures) refl)
+returns-in_err-blocks c = exit_kind _ _ _ c.from_residual-in_err-blocks.ensures.1 (rw (c.in_ok-device.ensures, c.in_ok-check_device.ensures, c.in_ok-option_value.ensures, sym c.in_ok-roots.ensures, c.in_ok-option_value-2.ensures, sym c.in_err-blocks.ensures) refl)
 
-pub returns-in_err-parity_value-3 : goal.returns-in_err-parity_value-3
+pub returns-in_err-option_value-3 : goal.returns-in_err-option_value-3
 unfolding fec_at
-returns-in_err-parity_value-3 c = exit_kind _ _ _ c.from_residual-in_err-parity_value-3.ensures.1 (rw (c.in_ok-device.ensures, c.in_ok-check_device.ensures, c.in_ok-parity_value.ensures, sym c.in_ok-roots.ensures, c.in_ok-parity_value-2.ensures, sym c.in_ok-blocks.ensures, c.in_err-parity_value-3.ensures) refl)
+returns-in_err-option_value-3 c = exit_kind _ _ _ c.from_residual-in_err-option_value-3.ensures.1 (rw (c.in_ok-device.ensures, c.in_ok-check_device.ensures, c.in_ok-option_value.ensures, sym c.in_ok-roots.ensures, c.in_ok-option_value-2.ensures, sym c.in_ok-blocks.ensures, c.in_err-option_value-3.ensures) refl)
 
 pub returns-in_err-start : goal.returns-in_err-start
 unfolding fec_at
-returns-in_err-start c = exit_kind _ _ _ c.from_residual-in_err-start.ensures.1 (rw (c.in_ok-device.ensures, c.in_ok-check_device.ensures, c.in_ok-parity_value.ensures, sym c.in_ok-roots.ensures, c.in_ok-parity_value-2.ensures, sym c.in_ok-blocks.ensures, c.in_ok-parity_value-3.ensures, sym c.in_err-start.ensures) refl)
+returns-in_err-start c = exit_kind _ _ _ c.from_residual-in_err-start.ensures.1 (rw (c.in_ok-device.ensures, c.in_ok-check_device.ensures, c.in_ok-option_value.ensures, sym c.in_ok-roots.ensures, c.in_ok-option_value-2.ensures, sym c.in_ok-blocks.ensures, c.in_ok-option_value-3.ensures, sym c.in_err-start.ensures) refl)
 
 pub returns-in_err-device-2 : goal.returns-in_err-device-2
 returns-in_err-device-2 c =
@@ -43,4 +43,4 @@ returns-in_err-device-2 c =
 
 pub returns : goal.returns
 unfolding fec_at
-returns c = rw (c.in_ok-device.ensures, c.in_ok-check_device.ensures, c.in_ok-parity_value.ensures, sym c.in_ok-roots.ensures, c.in_ok-parity_value-2.ensures, sym c.in_ok-blocks.ensures, c.in_ok-parity_value-3.ensures, sym c.in_ok-start.ensures, c.in_ok-device-2.ensures.ok) refl
+returns c = rw (c.in_ok-device.ensures, c.in_ok-check_device.ensures, c.in_ok-option_value.ensures, sym c.in_ok-roots.ensures, c.in_ok-option_value-2.ensures, sym c.in_ok-blocks.ensures, c.in_ok-option_value-3.ensures, sym c.in_ok-start.ensures, c.in_ok-device-2.ensures.ok) refl

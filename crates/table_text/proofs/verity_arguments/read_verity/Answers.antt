@@ -1,6 +1,7 @@
-use Rattle.std.proofs.Common.{Err, ap, sym, ◌∙◌, refl, arith}
+use Rattle.std.proofs.Common.{Err, drop, ap, sym, ◌∙◌, refl, arith}
 use Rattle.dm_table.specs.Options.{options_at}
-use Rattle.dm_table.specs.Parity.{parity_options}
+use Rattle.dm_table.specs.Parity.{parity_at}
+use Rattle.dm_table.specs.ValuedOptions.{valued_options}
 use Rattle.dm_table.specs.Verity.{known_verity_options, verity_at}
 use Rattle.table_text.proofs.ReadLemmas.{exit_kind, exit_memory, exit_part}
 use Rattle.table_text.proofs.VerityLemmas.{verity-few, device_at-length}
@@ -64,17 +65,22 @@ returns-in_err-salt c =
 pub returns-in_err-options : goal.returns-in_err-options
 unfolding verity_at
 returns-in_err-options c =
-    exit_part _ _ _ _ c.from_residual-in_err-options.ensures.1 c.in_err-options.ensures (λ kind e. rw (c.in_ok-words.ensures, sym c.in_ok-check_version.ensures, c.in_ok-check_device.ensures, c.in_ok-check_device-2.ensures, sym c.in_ok-data_block.ensures, sym c.in_ok-hash_block.ensures, sym c.in_ok-blocks.ensures, sym c.in_ok-start.ensures, sym c.in_ok-algorithm.ensures, sym c.in_ok-root.ensures, sym c.in_ok-salt.ensures, ap (options_at known_verity_options parity_options) (sym c.again.ensures) ∙ e) refl)
+    exit_part _ _ _ _ c.from_residual-in_err-options.ensures.1 c.in_err-options.ensures (λ kind e. rw (c.in_ok-words.ensures, sym c.in_ok-check_version.ensures, c.in_ok-check_device.ensures, c.in_ok-check_device-2.ensures, sym c.in_ok-data_block.ensures, sym c.in_ok-hash_block.ensures, sym c.in_ok-blocks.ensures, sym c.in_ok-start.ensures, sym c.in_ok-algorithm.ensures, sym c.in_ok-root.ensures, sym c.in_ok-salt.ensures, ap (options_at known_verity_options valued_options) (sym c.again.ensures) ∙ e) refl)
 
 pub returns-in_err-corruption : goal.returns-in_err-corruption
 unfolding verity_at
 returns-in_err-corruption c =
-    exit_kind _ _ _ c.from_residual-in_err-corruption.ensures.1 (rw (c.in_ok-words.ensures, sym c.in_ok-check_version.ensures, c.in_ok-check_device.ensures, c.in_ok-check_device-2.ensures, sym c.in_ok-data_block.ensures, sym c.in_ok-hash_block.ensures, sym c.in_ok-blocks.ensures, sym c.in_ok-start.ensures, sym c.in_ok-algorithm.ensures, sym c.in_ok-root.ensures, sym c.in_ok-salt.ensures, ap (options_at known_verity_options parity_options) (sym c.again.ensures) ∙ c.in_ok-options.ensures, sym c.in_err-corruption.ensures) refl)
+    exit_kind _ _ _ c.from_residual-in_err-corruption.ensures.1 (rw (c.in_ok-words.ensures, sym c.in_ok-check_version.ensures, c.in_ok-check_device.ensures, c.in_ok-check_device-2.ensures, sym c.in_ok-data_block.ensures, sym c.in_ok-hash_block.ensures, sym c.in_ok-blocks.ensures, sym c.in_ok-start.ensures, sym c.in_ok-algorithm.ensures, sym c.in_ok-root.ensures, sym c.in_ok-salt.ensures, ap (options_at known_verity_options valued_options) (sym c.again.ensures) ∙ c.in_ok-options.ensures, sym c.in_err-corruption.ensures) refl)
 
 pub returns-in_err-parity : goal.returns-in_err-parity
 unfolding verity_at
 returns-in_err-parity c =
-    exit_part _ _ _ _ c.from_residual-in_err-parity.ensures.1 c.in_err-parity.ensures (λ kind e. rw (c.in_ok-words.ensures, sym c.in_ok-check_version.ensures, c.in_ok-check_device.ensures, c.in_ok-check_device-2.ensures, sym c.in_ok-data_block.ensures, sym c.in_ok-hash_block.ensures, sym c.in_ok-blocks.ensures, sym c.in_ok-start.ensures, sym c.in_ok-algorithm.ensures, sym c.in_ok-root.ensures, sym c.in_ok-salt.ensures, ap (options_at known_verity_options parity_options) (sym c.again.ensures) ∙ c.in_ok-options.ensures, sym c.in_ok-corruption.ensures, e) refl)
+    exit_part _ _ _ _ c.from_residual-in_err-parity.ensures.1 c.in_err-parity.ensures (λ kind e. rw (c.in_ok-words.ensures, sym c.in_ok-check_version.ensures, c.in_ok-check_device.ensures, c.in_ok-check_device-2.ensures, sym c.in_ok-data_block.ensures, sym c.in_ok-hash_block.ensures, sym c.in_ok-blocks.ensures, sym c.in_ok-start.ensures, sym c.in_ok-algorithm.ensures, sym c.in_ok-root.ensures, sym c.in_ok-salt.ensures, ap (options_at known_verity_options valued_options) (sym c.again.ensures) ∙ c.in_ok-options.ensures, sym c.in_ok-corruption.ensures, ap (λ ws. parity_at c.in_ok-options.options (drop 1 ws)) (sym c.again-2.ensures) ∙ e) refl)
+
+pub returns-in_err-signature_key : goal.returns-in_err-signature_key
+unfolding verity_at
+returns-in_err-signature_key c =
+    exit_part _ _ _ _ c.from_residual-in_err-signature_key.ensures.1 c.in_err-signature_key.ensures (λ kind e. rw (c.in_ok-words.ensures, sym c.in_ok-check_version.ensures, c.in_ok-check_device.ensures, c.in_ok-check_device-2.ensures, sym c.in_ok-data_block.ensures, sym c.in_ok-hash_block.ensures, sym c.in_ok-blocks.ensures, sym c.in_ok-start.ensures, sym c.in_ok-algorithm.ensures, sym c.in_ok-root.ensures, sym c.in_ok-salt.ensures, ap (options_at known_verity_options valued_options) (sym c.again.ensures) ∙ c.in_ok-options.ensures, sym c.in_ok-corruption.ensures, ap (λ ws. parity_at c.in_ok-options.options (drop 1 ws)) (sym c.again-2.ensures) ∙ c.in_ok-parity.ensures, e) refl)
 
 pub returns-in_err-data : goal.returns-in_err-data
 returns-in_err-data c =
@@ -88,4 +94,4 @@ returns-in_err-hash c =
 
 pub returns : goal.returns
 unfolding verity_at
-returns c = rw (c.in_ok-words.ensures, sym c.in_ok-check_version.ensures, c.in_ok-check_device.ensures, c.in_ok-check_device-2.ensures, sym c.in_ok-data_block.ensures, sym c.in_ok-hash_block.ensures, sym c.in_ok-blocks.ensures, sym c.in_ok-start.ensures, sym c.in_ok-algorithm.ensures, sym c.in_ok-root.ensures, sym c.in_ok-salt.ensures, ap (options_at known_verity_options parity_options) (sym c.again.ensures) ∙ c.in_ok-options.ensures, sym c.in_ok-corruption.ensures, c.in_ok-parity.ensures, c.in_ok-data.ensures.ok, c.in_ok-hash.ensures.ok, c.is_kept-ignore_zero_blocks.ensures, c.is_kept-in_tasklet.ensures) refl
+returns c = rw (c.in_ok-words.ensures, sym c.in_ok-check_version.ensures, c.in_ok-check_device.ensures, c.in_ok-check_device-2.ensures, sym c.in_ok-data_block.ensures, sym c.in_ok-hash_block.ensures, sym c.in_ok-blocks.ensures, sym c.in_ok-start.ensures, sym c.in_ok-algorithm.ensures, sym c.in_ok-root.ensures, sym c.in_ok-salt.ensures, ap (options_at known_verity_options valued_options) (sym c.again.ensures) ∙ c.in_ok-options.ensures, sym c.in_ok-corruption.ensures, ap (λ ws. parity_at c.in_ok-options.options (drop 1 ws)) (sym c.again-2.ensures) ∙ c.in_ok-parity.ensures, c.in_ok-signature_key.ensures, c.in_ok-data.ensures.ok, c.in_ok-hash.ensures.ok, c.is_kept-ignore_zero_blocks.ensures, c.is_kept-in_tasklet.ensures) refl

@@ -26,16 +26,16 @@ pub returns-clause-any : goal.returns-clause-any
 returns-clause-any g c =
     let n : ℕ = length c.args.out.now / 512 in
     let answer : Result (List ℕ) IoFault = buffer_answer c.read_device.result c.read_device.new.out in
-    let after : StackRecord = stack_with c.self.inside.config (map g.D.BlockDev.state c.read_device.new.backing.devices.items) c.read_device.new.backing.cache.blocks c.read_device.new.backing.restored in
-    subst (λ (w : StackRecord). AnyBytes w c.args.d.0 c.args.first n answer after) c.self.view_is (each-bytes c.self.inside.config c.args.d.0 c.args.first n answer c.new-dropped.ensures.items c.read_device.ensures.reads (buffer-touched c.read_device.result c.read_device.new.out c.read_device.ensures.step.touches) {before = c.self.inside.backing.cache.blocks} {after = c.read_device.new.backing.cache.blocks} c.read_device.ensures.step.cached.capacity).any
+    let after : StackRecord = stack_with c.self.inside.config (map g.D.BlockDev.state c.read_device.new.backing.devices.items) c.read_device.new.backing.cache c.read_device.new.backing.restored in
+    subst (λ (w : StackRecord). AnyBytes w c.args.d.0 c.args.first n answer after) c.self.view_is (each-bytes c.self.inside.config c.args.d.0 c.args.first n answer c.new-dropped.ensures.items c.read_device.ensures.reads (buffer-touched c.read_device.result c.read_device.new.out c.read_device.ensures.step.touches) c.self.inside.backing.cache c.read_device.new.backing.cache c.read_device.ensures.step.cached.capacity).any
 
 pub returns-clause-steady : goal.returns-clause-steady
 returns-clause-steady g c =
     let n : ℕ = length c.args.out.now / 512 in
     let answer : Result (List ℕ) IoFault = buffer_answer c.read_device.result c.read_device.new.out in
-    let after : StackRecord = stack_with c.self.inside.config (map g.D.BlockDev.state c.read_device.new.backing.devices.items) c.read_device.new.backing.cache.blocks c.read_device.new.backing.restored in
+    let after : StackRecord = stack_with c.self.inside.config (map g.D.BlockDev.state c.read_device.new.backing.devices.items) c.read_device.new.backing.cache c.read_device.new.backing.restored in
     subst (λ (w : StackRecord). IsCertainPiece w c.args.d.0 c.args.first n → SteadyBytes w c.args.d.0 c.args.first n answer after) c.self.view_is
-    (each-bytes c.self.inside.config c.args.d.0 c.args.first n answer c.new-dropped.ensures.items c.read_device.ensures.reads (buffer-touched c.read_device.result c.read_device.new.out c.read_device.ensures.step.touches) {before = c.self.inside.backing.cache.blocks} {after = c.read_device.new.backing.cache.blocks} c.read_device.ensures.step.cached.capacity).steady
+    (each-bytes c.self.inside.config c.args.d.0 c.args.first n answer c.new-dropped.ensures.items c.read_device.ensures.reads (buffer-touched c.read_device.result c.read_device.new.out c.read_device.ensures.step.touches) c.self.inside.backing.cache c.read_device.new.backing.cache c.read_device.ensures.step.cached.capacity).steady
 
 pub returns-clause-stops : goal.returns-clause-stops
 returns-clause-stops g c =
@@ -52,7 +52,7 @@ returns-clause-spent g c =
 pub returns-clause-kept : goal.returns-clause-kept
 returns-clause-kept g c =
     let n : ℕ = length c.args.out.now / 512 in
-    let after : StackRecord = stack_with c.self.inside.config (map g.D.BlockDev.state c.read_device.new.backing.devices.items) c.read_device.new.backing.cache.blocks c.read_device.new.backing.restored in
+    let after : StackRecord = stack_with c.self.inside.config (map g.D.BlockDev.state c.read_device.new.backing.devices.items) c.read_device.new.backing.cache c.read_device.new.backing.restored in
     subst (λ (w : StackRecord). ReadKeeps w c.args.d.0 c.args.first n after) c.self.view_is
     (record { same = λ none. ap (λ (k : StackCache). k.blocks.blocks) (c.read_device.ensures.step.same none); checked = cached-checked c.self.inside.config c.read_device.ensures.step.cached.sound })
 
@@ -64,13 +64,13 @@ returns-clause-given g c =
     let answer : Result (List ℕ) IoFault = buffer_answer c.read_device.result c.read_device.new.out in
     let devices = c.self.inside.backing.devices.items in
     let new = c.read_device.new.backing.devices.items in
-    let after : StackRecord = stack_with c.self.inside.config (map state new) c.read_device.new.backing.cache.blocks c.read_device.new.backing.restored in
+    let after : StackRecord = stack_with c.self.inside.config (map state new) c.read_device.new.backing.cache c.read_device.new.backing.restored in
     subst (λ (w : StackRecord). PieceGives state does w (c.args.d.0, c.args.first) n answer after) c.self.view_is
     (record { before = devices; after = new; was = refl; is = refl; made = makes-as (λ calls a. inr a) c.read_device.ensures.given.made })
 
 pub returns-clause-restored : goal.returns-clause-restored
 returns-clause-restored g c =
     let n : ℕ = length c.args.out.now / 512 in
-    let after : StackRecord = stack_with c.self.inside.config (map g.D.BlockDev.state c.read_device.new.backing.devices.items) c.read_device.new.backing.cache.blocks c.read_device.new.backing.restored in
+    let after : StackRecord = stack_with c.self.inside.config (map g.D.BlockDev.state c.read_device.new.backing.devices.items) c.read_device.new.backing.cache c.read_device.new.backing.restored in
     subst (λ (w : StackRecord). ReadRestores w c.args.d.0 c.args.first n after) c.self.view_is
     (record { grows = reads-grow c.read_device.ensures.given.made.are; same = c.read_device.ensures.step.uncounted })

@@ -50,7 +50,7 @@ reads g c =
     subst (λ k. R k []) (count g c) (subst (R (length c.as_mut_slice.result.now / 512)) c.new-chains.ensures.items c.read_device.ensures.reads)
 
 piece : (g : given.Over) (c : goal.Joined-read_device g)
-    → EachPiece c.args.self.now c.args.d.0 c.args.first c.args.n c.match-read_device.result (stack_with c.self.inside.config (map g.D.BlockDev.state c.read_device.new.backing.devices.items) c.read_device.new.backing.cache.blocks c.read_device.new.backing.restored)
+    → EachPiece c.args.self.now c.args.d.0 c.args.first c.args.n c.match-read_device.result (stack_with c.self.inside.config (map g.D.BlockDev.state c.read_device.new.backing.devices.items) c.read_device.new.backing.cache c.read_device.new.backing.restored)
 piece g c =
     let state = g.D.BlockDev.state in
     let config = c.self.inside.config in
@@ -78,9 +78,9 @@ piece g c =
       | in-Err-read_device w ↦ subst Alike (sym w.result-is) (λ failures. sym (ap (λ (r : Result Unit IoFault). failures_behind r failures) w.in-Err-read_device.is))
       | in-Ok-read_device w ↦ subst Alike (sym w.result-is) (λ failures. sym (ap (λ (r : Result Unit IoFault). failures_behind r failures) w.in-Ok-read_device.is))
     ] in
-    subst (λ (w : StackRecord). EachPiece w c.args.d.0 c.args.first c.args.n c.match-read_device.result (stack_with config new c.read_device.new.backing.cache.blocks c.read_device.new.backing.restored)) c.self.view_is
+    subst (λ (w : StackRecord). EachPiece w c.args.d.0 c.args.first c.args.n c.match-read_device.result (stack_with config new c.read_device.new.backing.cache c.read_device.new.backing.restored)) c.self.view_is
     (each-piece config c.args.d.0 c.args.first c.args.n c.match-read_device.result got
-    (asks-less (λ none met. none (subst (λ (k : ℕ). MeetVerity (said_at config (mapped c.args.d.0)) c.args.first k) (count g c) met)) (asks-as c.match-read_device.result fault alike c.read_device.ensures.step.touches)) {before = c.self.inside.backing.cache.blocks} {after = c.read_device.new.backing.cache.blocks} c.read_device.ensures.step.cached.capacity)
+    (asks-less (λ none met. none (subst (λ (k : ℕ). MeetVerity (said_at config (mapped c.args.d.0)) c.args.first k) (count g c) met)) (asks-as c.match-read_device.result fault alike c.read_device.ensures.step.touches)) c.self.inside.backing.cache c.read_device.new.backing.cache c.read_device.ensures.step.cached.capacity)
 
 pub invariant_of-self : goal.invariant_of-self
 invariant_of-self g c = record { sound = piece-sound c.self.inside.config c.self.invariant.sound (reads g c).reads.got.moved; cached = c.read_device.ensures.step.cached.sound }
@@ -122,7 +122,7 @@ returns-in-Err-clause-spent g c = omega arith
 pub returns-clause-kept : goal.returns-clause-kept
 returns-clause-kept g c =
     let config = c.self.inside.config in
-    let after : StackRecord = stack_with config (map g.D.BlockDev.state c.read_device.new.backing.devices.items) c.read_device.new.backing.cache.blocks c.read_device.new.backing.restored in
+    let after : StackRecord = stack_with config (map g.D.BlockDev.state c.read_device.new.backing.devices.items) c.read_device.new.backing.cache c.read_device.new.backing.restored in
     let none_met = subst (λ (n : ℕ). (MeetVerity (said_at config (mapped c.args.d.0)) c.args.first n → ⊥) → c.read_device.new.backing.cache ≡ c.self.inside.backing.cache) (count g c) c.read_device.ensures.step.same in
     subst (λ (w : StackRecord). ReadKeeps w c.args.d.0 c.args.first c.args.n after) c.self.view_is
     (record { same = λ none. ap (λ (k : StackCache). k.blocks.blocks) (none_met none); checked = cached-checked config c.read_device.ensures.step.cached.sound })
@@ -139,7 +139,7 @@ returns-clause-given g c =
     let config = c.self.inside.config in
     let devices = c.self.inside.backing.devices.items in
     let new = c.read_device.new.backing.devices.items in
-    let after : StackRecord = stack_with config (map state new) c.read_device.new.backing.cache.blocks c.read_device.new.backing.restored in
+    let after : StackRecord = stack_with config (map state new) c.read_device.new.backing.cache c.read_device.new.backing.restored in
     let made = subst (λ (n : ℕ). Gives (DeviceDoes state does) config (Below (mapped c.args.d.0) c.args.first) n (served c.self.inside.backing) (served c.read_device.new.backing) (buffer_answer c.read_device.result c.read_device.new.out)) (count g c) c.read_device.ensures.given in
     let held : length c.read_device.new.out ≡ c.in-Ok.bytes.len = c.read_device.auto.out ∙ ap (λ (l : List ℕ). length l) c.as_mut_slice.ensures.value ∙ sym c.in-Ok.bytes.ok.0 in
     let Same : Result AnswerRecord IoFault → Type 0 = λ r. buffer_answer c.read_device.result c.read_device.new.out ≡ answer_bytes r in
@@ -162,7 +162,7 @@ returns-in-Err-clause-given g c =
 pub returns-clause-restored : goal.returns-clause-restored
 returns-clause-restored g c =
     let config = c.self.inside.config in
-    let after : StackRecord = stack_with config (map g.D.BlockDev.state c.read_device.new.backing.devices.items) c.read_device.new.backing.cache.blocks c.read_device.new.backing.restored in
+    let after : StackRecord = stack_with config (map g.D.BlockDev.state c.read_device.new.backing.devices.items) c.read_device.new.backing.cache c.read_device.new.backing.restored in
     let none_met = subst (λ (n : ℕ). (MeetVerity (said_at config (mapped c.args.d.0)) c.args.first n → ⊥) → c.read_device.new.backing.restored ≡ c.self.inside.backing.restored) (count g c) c.read_device.ensures.step.uncounted in
     subst (λ (w : StackRecord). ReadRestores w c.args.d.0 c.args.first c.args.n after) c.self.view_is
     (record { grows = reads-grow c.read_device.ensures.given.made.are; same = none_met })

@@ -33,19 +33,19 @@ bytes_of g c =
 
 -- what the write did, of the stack's own devices
 piece : (g : given.Over) (c : goal.After-drop-buffer g)
-    → EachWrite (stack_with c.self.inside.config (map g.D.BlockDev.state c.self.inside.backing.devices.items) c.self.inside.backing.cache.blocks c.self.inside.backing.restored) c.args.d.0 c.args.first c.args.bytes.now c.write_device.result
-    (stack_with c.self.inside.config (map g.D.BlockDev.state c.write_device.new.backing.devices.items) c.write_device.new.backing.cache.blocks c.write_device.new.backing.restored)
+    → EachWrite (stack_with c.self.inside.config (map g.D.BlockDev.state c.self.inside.backing.devices.items) c.self.inside.backing.cache c.self.inside.backing.restored) c.args.d.0 c.args.first c.args.bytes.now c.write_device.result
+    (stack_with c.self.inside.config (map g.D.BlockDev.state c.write_device.new.backing.devices.items) c.write_device.new.backing.cache c.write_device.new.backing.restored)
 piece g c =
     let state = g.D.BlockDev.state in
     let Is : List ℕ → Type 0 = λ b.
     WritesSectors (destination_of c.self.inside.config (mapped c.args.d.0)) c.args.first (sectors_in b) (map state c.self.inside.backing.devices.items) (map state c.write_device.new.backing.devices.items) c.write_device.result in
-    each-write c.args.d.0 c.args.first c.args.bytes.now c.write_device.result c.requires.piece refl c.write_device.ensures.step.cached.capacity c.write_device.ensures.step.uncounted (λ was. all-whole state g.met.D.BlockDev.whole c.write_device.new.backing.devices.items) c.write_device.ensures.step.forgets (subst Is (bytes_of g c) c.write_device.ensures.writes)
+    each-write c.args.d.0 c.args.first c.args.bytes.now c.write_device.result c.requires.piece refl c.write_device.ensures.step.cached.capacity c.write_device.ensures.step.uncounted (λ was. all-whole state g.met.D.BlockDev.whole c.write_device.new.backing.devices.items) c.write_device.ensures.step.forgets c.write_device.ensures.step.drops (subst Is (bytes_of g c) c.write_device.ensures.writes)
 
 -- of the stack as it was
 whole : (g : given.Over) (c : goal.After-drop-buffer g)
-    → EachWrite c.args.self.now c.args.d.0 c.args.first c.args.bytes.now c.write_device.result (stack_with c.self.inside.config (map g.D.BlockDev.state c.write_device.new.backing.devices.items) c.write_device.new.backing.cache.blocks c.write_device.new.backing.restored)
+    → EachWrite c.args.self.now c.args.d.0 c.args.first c.args.bytes.now c.write_device.result (stack_with c.self.inside.config (map g.D.BlockDev.state c.write_device.new.backing.devices.items) c.write_device.new.backing.cache c.write_device.new.backing.restored)
 whole g c =
-    subst (λ (w : StackRecord). EachWrite w c.args.d.0 c.args.first c.args.bytes.now c.write_device.result (stack_with c.self.inside.config (map g.D.BlockDev.state c.write_device.new.backing.devices.items) c.write_device.new.backing.cache.blocks c.write_device.new.backing.restored)) c.self.view_is (piece g c)
+    subst (λ (w : StackRecord). EachWrite w c.args.d.0 c.args.first c.args.bytes.now c.write_device.result (stack_with c.self.inside.config (map g.D.BlockDev.state c.write_device.new.backing.devices.items) c.write_device.new.backing.cache c.write_device.new.backing.restored)) c.self.view_is (piece g c)
 
 pub invariant_of-self : goal.invariant_of-self
 invariant_of-self g c = record { sound = write-sound c.self.inside.config c.self.invariant.sound (piece g c); cached = c.write_device.ensures.step.cached.sound }
@@ -78,7 +78,7 @@ returns-in-Err-clause-uncut g c = λ cuts. refl
 
 -- what is counted, of the stack as it was
 pays : (g : given.Over) (c : goal.After-drop-buffer g) (k : Counter)
-    → PaysPiece k c.args.self.now c.args.d.0 c.args.first (length c.args.bytes.now / 512) (stack_with c.self.inside.config (map g.D.BlockDev.state c.write_device.new.backing.devices.items) c.write_device.new.backing.cache.blocks c.write_device.new.backing.restored)
+    → PaysPiece k c.args.self.now c.args.d.0 c.args.first (length c.args.bytes.now / 512) (stack_with c.self.inside.config (map g.D.BlockDev.state c.write_device.new.backing.devices.items) c.write_device.new.backing.cache c.write_device.new.backing.restored)
 pays g c k =
     let state = g.D.BlockDev.state in
     let new = map state c.write_device.new.backing.devices.items in
@@ -113,7 +113,7 @@ returns-clause-handed g c =
     let does = g.D.BlockDev.does in
     let devices = c.self.inside.backing.devices.items in
     let new = c.write_device.new.backing.devices.items in
-    let after = stack_with c.self.inside.config (map state new) c.write_device.new.backing.cache.blocks c.write_device.new.backing.restored in
+    let after = stack_with c.self.inside.config (map state new) c.write_device.new.backing.cache c.write_device.new.backing.restored in
     let made = subst (λ (b : List ℕ). Hands (DeviceDoes state does) c.self.inside.config (Below (mapped c.args.d.0) c.args.first) b devices new c.write_device.result) (bytes_of g c) c.write_device.ensures.handed in
     subst (λ (w : StackRecord). PieceHands state does w (c.args.d.0, c.args.first) c.args.bytes.now c.write_device.result after) c.self.view_is
     (record { before = devices; after = new; was = refl; is = refl; made = makes-as (λ calls a. inr a) made })

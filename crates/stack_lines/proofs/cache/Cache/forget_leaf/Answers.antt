@@ -9,7 +9,7 @@ pub returns-then-not-contains-clause-blocks : goal.returns-then-not-contains-cla
 returns-then-not-contains-clause-blocks c =
     let set = c.args.self.now.covered in
     let off : has_leaf set c.args.leaf ≡ false = ap (λ (k : StackCache). has_leaf k.covered c.args.leaf) (sym c.self.view_is) ∙ sym c.contains.ensures ∙ c.if-not-contains.true in
-    sym (covers-none c.args.config.now c.args.leaf set c.args.self.now.blocks c.requires.leaf off c.requires.covers)
+    ap (λ (k : StackCache). k.blocks) c.self.view_is ∙ sym (covers-none c.args.config.now c.args.leaf set c.args.self.now.blocks c.requires.leaf off c.requires.covers)
 
 pub returns-clause-covers : goal.returns-clause-covers
 returns-clause-covers c =
