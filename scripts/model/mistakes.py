@@ -212,7 +212,7 @@ LATER = [
     ("healing", "hash blocks counted from the superblock", "stack.py",
      'target.blocks + place - target.start, expected)', 'target.blocks + place, expected)'),
     ("healing", "the cost of one restored block alone", "configuration.py",
-     'healing = (levels + 1) * 254', 'healing = 254'),
+     'healing = (levels + 1) * 255', 'healing = 255'),
     ("healing", "parity that ends one block too early", "configuration.py",
      'end = (parity.start + rounds * parity.roots) * size', 'end = (parity.start + rounds * parity.roots - 1) * size'),
     ("healing", "a tree without its top block covered", "configuration.py",

@@ -302,7 +302,7 @@ class Stack:
 
     def read_row(self, target, block, row, after):
         """Reads a block together with the rest of its row, if it wasn't read with others: up to one that the last hash block on its
-        way says is ignored, or as far as that says."""
+        way says is ignored, or as far as that says. If they can't be read, each is read alone, if there is parity."""
         if block < row.read:
             return
         row.read = row.end
@@ -311,7 +311,11 @@ class Stack:
             others = [after[at:at + 32] for at in range(0, len(after), 32)]
             row.read = min(row.end, block + 1 + (others.index(ignored) if ignored in others else len(others)))
         size = target.data_block // SECTOR
-        self.read_run(self.configuration.lower(target.device), block * size, (row.read - block) * size)
+        try:
+            self.read_run(self.configuration.lower(target.device), block * size, (row.read - block) * size)
+        except Fault:
+            if target.parity is None:
+                raise
 
     def checked(self, target, data, expected):
         if digest(target.salt, data) != expected:

@@ -24,7 +24,7 @@ use Rattle.stack_lines.specs.Clear.{IsClear}
 use Rattle.stack_lines.specs.Caches.{StackCache}
 use Rattle.stack_lines.specs.Sources.{AreWholeBlocks, source_said}
 use Rattle.stack_lines.specs.Touches.{leaves_of}
-use Rattle.stack_lines.specs.Walks.{HasVerity, block_in, spare_cost, way_cost}
+use Rattle.stack_lines.specs.Walks.{HasVerity, block_in, settled_cost, way_cost}
 use Rattle.stack_meaning.proofs.lemmas.LeafListLemmas.{AreSteady-kept, images-kept}
 use Rattle.stack_lines.proofs.lemmas.VerityLineLemmas.{IsWholeSectors, data-whole, blocks-below}
 use Rattle.stack_engine.specs.Premises.{CanRead}
@@ -41,9 +41,9 @@ blocks_place c p n = record { said = source_said c (Blocks p); cost = n * read_c
 abbrev pub path_cost : Configuration → Verity → ℕ
 path_cost c v = levels (tree_of v) * way_cost (block_in c v 0)
 
--- what n sectors, so many ways to blocks, and so many spares of data blocks cost
+-- what n sectors, so many ways to blocks, and so many data blocks that are settled cost
 abbrev pub read_cost_so_far : Configuration → Verity → ℕ → ℕ → ℕ → ℕ
-read_cost_so_far c v n ways spares = n * (block_in c v 0).on_data.cost + ways * path_cost c v + spares * spare_cost (block_in c v 0)
+read_cost_so_far c v n ways spares = n * (block_in c v 0).on_data.cost + ways * path_cost c v + spares * settled_cost (block_in c v 0)
 
 -- leaves that were read twice have the same images
 pub same-images : {old a b : List Device} {q r : ℕ} → AreRead old q a → AreRead old r b → {these : ℕ → Bool} → AreSteady these b → AreSteady these a × (steady_images b ≡ steady_images a)

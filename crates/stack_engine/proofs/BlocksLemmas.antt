@@ -1,5 +1,5 @@
 -- Whole data blocks of a verity line of a configuration, which are read at once.
-use Rattle.std.proofs.Common.{◌≡◌, ℕ, ◌+◌, ◌*◌, ◌/◌, ◌%◌, ◌<◌, ◌≤◌, IsTrue, List, [], ◌∷◌, ◌++◌, length, get_or, take, drop, Result, Ok, Err, inl, refl, sym, ap, ◌∙◌, subst, arith}
+use Rattle.std.proofs.Common.{◌≡◌, ℕ, ◌+◌, ◌*◌, ◌/◌, ◌%◌, ◌<◌, ◌≤◌, IsTrue, List, [], ◌∷◌, ◌++◌, length, get_or, take, drop, Vec, Global, Result, Ok, Err, inl, refl, sym, ap, ◌∙◌, subst, arith}
 use Rattle.std.proofs.lemmas.List.{take_all, length-take-le, length-drop}
 use Rattle.std.proofs.lemmas.List.Elements.{All-cons, All-nil, All-append, Contains-push}
 use Rattle.std.proofs.lemmas.Nat.{div-add-mod', div-mul-add, mod-mul-add}
@@ -34,7 +34,7 @@ use Rattle.stack_lines.proofs.lemmas.BlockAgreementLemmas.{block-agreed, line-ag
 use Rattle.stack_lines.proofs.lemmas.BudgetLemmas.{chain-cost as priced}
 use Rattle.stack_lines.proofs.lemmas.TouchLemmas.{verity-leaves, verity-names}
 use Rattle.stack_lines.specs.Touches.{leaves_of}
-use Rattle.stack_lines.specs.Walks.{AgreesAt, block_in, chain_expected, spare_cost, spare_expected, GetsChain}
+use Rattle.stack_lines.specs.Walks.{AgreesAt, block_in, chain_expected, data_expected, settled_cost, spare_expected, GetsChain}
 use Rattle.stack_meaning.proofs.lemmas.LeafListLemmas.{AreRead-none, AreRead-more, AreSteady-kept, AreSteady-within, images-kept, failed_later}
 use Rattle.stack_meaning.proofs.lemmas.FoundLemmas.{Grown-none, kept-later}
 use Rattle.stack_meaning.proofs.lemmas.RunLemmas.{Passes, pass, AllMono, run_ok, run_err}
@@ -101,7 +101,7 @@ module _ {c : Configuration} {p : VerityPart} {n : ℕ} {found : List FoundRecor
   total-cost r j s read most healed =
       let dc : ℕ = (block_in c p.verity.now 0).on_data.cost in
       let path : ℕ = path_cost c p.verity.now in
-      let mend : ℕ = spare_cost (block_in c p.verity.now 0) in
+      let mend : ℕ = settled_cost (block_in c p.verity.now 0) in
       let one : block_sectors p.verity.now * dc + path + mend ≤ read_cost c (mapped p.device.0) = omega (arith, chain-cost 0, chain-spent (block_in c p.verity.now 0)) in
       let all : n * (block_sectors p.verity.now * dc + path + mend) ≤ n * read_cost c (mapped p.device.0) = mul-le-mul_left n one in
       let apart : n * (block_sectors p.verity.now * dc + path + mend) ≡ n * (block_sectors p.verity.now * dc) + n * path + n * mend = mul-add n (block_sectors p.verity.now * dc + path) mend ∙ ap (λ (k : ℕ). k + n * mend) (mul-add n (block_sectors p.verity.now * dc) path) in
@@ -203,6 +203,13 @@ module _ {c : Configuration} {p : VerityPart} {n : ℕ} {found : List FoundRecor
     heal-stops expected (io.Stack fault) other walked got = blocks-differ (other fault refl)
     heal-stops expected (io.Device i) other walked got = stops (io.Device i) (record { moved = AreRead-more step-cost moved; may = (got.may.0, failed_later walked.moved got.moved.moved got.may.1); exact = λ sure. tt })
     heal-stops expected io.NoMemory other walked got = stops io.NoMemory (record { moved = AreRead-more step-cost moved; may = got.may; exact = λ sure. tt })
+
+    -- as it is read alone
+    pub alone-stops : {now at : List Device} {q : ℕ} (expected : List ℕ) (fault : IoFault) → ((why : Fault) → fault ≡ io.Stack why → GetsChain (block_in c p.verity.now (index + j)) mid now (Err (io.Stack why))) → AreRead mid q at
+        → Gets (data_expected (λ (x : Vec ℕ Global). x.items) (block_in c p.verity.now (index + j)) expected) at new (Err fault) → Finds (blocks_place c p n) c 0 n (record { old = old; new = new; before = u; after = w }) (Err fault)
+    alone-stops expected (io.Stack why) other walked got = let end = block-stops (io.Stack why) (other why refl) in stops (io.Stack why) (record { moved = AreRead-more step-cost moved; may = end.may; exact = end.exact })
+    alone-stops expected (io.Device i) other walked got = stops (io.Device i) (record { moved = AreRead-more step-cost moved; may = (got.may.0, failed_later walked.moved got.moved.moved got.may.1); exact = λ sure. tt })
+    alone-stops expected io.NoMemory other walked got = stops io.NoMemory (record { moved = AreRead-more step-cost moved; may = got.may; exact = λ sure. tt })
 
     -- of the data, beneath which no fault of a line is met
     pub row-stops : {at : List Device} {q first rows : ℕ} (chains : List FoundRecord) (fault : IoFault) → AreRead mid q at

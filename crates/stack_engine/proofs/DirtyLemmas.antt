@@ -12,7 +12,7 @@ use Rattle.stack_engine.specs.Pieces.{PieceGives}
 use Rattle.stack_engine.specs.Stacks.{StackRecord}
 use Rattle.stack_engine.specs.WritePieces.{PieceHands}
 use Rattle.stack_engine.specs.LeafCalls.{IsLeafCall, LeafCall, LeafCalls}
-use Rattle.stack_engine.specs.SectorCalls.{ReadOf, ReadCalls, WriteTo, WriteCalls, leaf_read, leaf_unread, none_read, line_read, line_unread, units_read, units_unread, part_read, part_unread, zeros_read, fails_read, chain_found, data_read, data_unread, data_full, blocks_read, block_checked, block_differs, block_unread, block_full, hash_kept, hash_full, hash_read, way_had, way_healed, way_lost, way_down, way_stops, way_full, one_ignored, one_read, next_ignored, next_checked, next_healed, next_differs, together_read, together_unread, blocks_end, blocks_next, blocks_full, leaf_written, leaf_unwritten, none_written, line_written, line_unwritten, units_written, each_written, part_written, part_lost, none_stepped, step_written, step_unwritten, zeros_written, fails_written, one_healed, one_kept, one_fetched, spare_none, spare_full, spare_checked, spare_differs, spare_unread, sums_past, sums_added, sums_unread, parity_added, parity_unread}
+use Rattle.stack_engine.specs.SectorCalls.{ReadOf, ReadCalls, WriteTo, WriteCalls, leaf_read, leaf_unread, none_read, line_read, line_unread, units_read, units_unread, part_read, part_unread, zeros_read, fails_read, chain_found, data_read, data_unread, data_full, blocks_read, block_checked, block_differs, block_unread, block_full, hash_kept, hash_full, hash_read, way_had, way_healed, way_lost, way_down, way_stops, way_full, one_ignored, one_read, next_ignored, next_checked, next_healed, next_differs, next_alone, next_unread, together_read, together_lost, together_unread, blocks_end, blocks_next, blocks_full, leaf_written, leaf_unwritten, none_written, line_written, line_unwritten, units_written, each_written, part_written, part_lost, none_stepped, step_written, step_unwritten, zeros_written, fails_written, one_healed, one_kept, one_fetched, spare_none, spare_full, spare_checked, spare_differs, spare_unread, sums_past, sums_added, sums_unread, parity_added, parity_unread}
 
 -- a read or a write
 abbrev pub is_transfer : Call → Bool
@@ -78,11 +78,14 @@ reads-only (next_ignored last is a) = reads-only a
 reads-only (next_checked block last used is a) = reads-only a
 reads-only (next_healed block last {calls = calls} {later = later} used len other a b) = are-append is_read calls later (reads-only a) (reads-only b)
 reads-only (next_differs left block ahead last used len other a) = reads-only a
+reads-only (next_alone {calls = calls} {later = later} a b) = are-append is_read calls later (reads-only a) (reads-only b)
+reads-only (next_unread left alone a) = reads-only a
 reads-only (together_read {calls = calls} {later = later} used row a b) = are-append is_read calls later (reads-only a) (reads-only b)
-reads-only (together_unread used row a) = reads-only a
-reads-only (blocks_end p ahead) = tt
+reads-only (together_lost {calls = calls} {later = later} used row heals a b) = are-append is_read calls later (reads-only a) (reads-only b)
+reads-only (together_unread used row settled a) = reads-only a
+reads-only (blocks_end p alone ahead) = tt
 reads-only (blocks_next a) = reads-only a
-reads-only (blocks_full p left ahead) = tt
+reads-only (blocks_full p left alone ahead) = tt
 reads-only (spare_none p expected none) = tt
 reads-only (spare_full p expected) = tt
 reads-only (spare_checked has a good) = reads-only a

@@ -1,7 +1,7 @@
 -- A data block that is healed, and blocks of another digest.
-use Rattle.std.proofs.Common.{◌≡◌, Bool, true, false, cond, List, ℕ, length, Vec, Global, Option, None, Result, Ok, Err, refl, sym, ap, ◌∙◌, subst}
+use Rattle.std.proofs.Common.{◌≡◌, Bool, true, false, cond, List, ℕ, length, Vec, Global, Option, None, Some, Result, Ok, Err, refl, sym, ap, ◌∙◌, subst}
 use Rattle.std.proofs.lemmas.Slice.Eq.{bytes_eq-Decides}
-use Rattle.std.specs.Prelude.{IsTrue, is_some}
+use Rattle.std.specs.Prelude.{IsTrue, is_ok, is_some}
 use Rattle.std.specs.Str.{bytes_eq}
 use Rattle.allocation.specs.Refusal.{IsOutOfMemory}
 use Rattle.tree_shape.specs.Digests.{digest}
@@ -23,7 +23,7 @@ use Rattle.stack_lines.specs.Walks.{DataBlock, block_in, spare_expected}
 use Rattle.stack_engine.specs.declared.backing.Backing.{Backing}
 use Rattle.stack_engine.specs.declared.spare.LostBlock.{LostBlock}
 use Rattle.stack_engine.specs.Backings.{leaves_in, served}
-use Rattle.stack_engine.specs.Healing.{HasNoParity, IsHealed, healed_result, unhealed}
+use Rattle.stack_engine.specs.Healing.{HasNoParity, IsHealed, IsLost, healed_result, row_answer, unhealed}
 use Rattle.stack_engine.specs.ReadSteps.{ReadsOn}
 use Rattle.stack_engine.specs.Restored.{Served, after_spare}
 use Rattle.stack_engine.specs.SectorCalls.{DataPlace, ReadsBy, spare_full, spare_of}
@@ -46,6 +46,26 @@ asks-unhealed own io.NoMemory p = asks-as (Err io.NoMemory) tt (λ failures. ref
 -- without parity no device's fault is healed
 unprotected : {X : Type 0} (parity : Option Parity) → parity ≡ None → IsTrue (is_some parity) → X
 unprotected parity lacks heals = let clash : false ≡ true = sym (ap is_some lacks) ∙ heals in absurd cc
+
+pub heals-some : (parity : Option Parity) (fault : IoFault) → IsHealed parity fault → IsTrue (is_some parity)
+heals-some parity (io.Stack fault) heals = heals
+heals-some parity (io.Device i) heals = heals
+heals-some parity io.NoMemory heals = let clash : false ≡ true = heals in absurd cc
+
+-- a row whose read failed
+pub lost-heals : (parity : Option Parity) (lost : Option IoFault) → IsLost parity (Ok lost) → (fault : IoFault) → lost ≡ Some fault → IsHealed parity fault
+lost-heals parity None is fault at = let clash : None ≡ Some fault = at in absurd cc
+lost-heals parity (Some own) is fault at = let same : own ≡ fault = cc in subst (IsHealed parity) same is
+
+pub lost-fails : (lost : Option IoFault) (bytes : List ℕ) → IsTrue (is_ok (row_answer (Ok lost) bytes)) → (fault : IoFault) → lost ≡ Some fault → ⊥
+lost-fails None bytes good fault at = let clash : None ≡ Some fault = at in absurd cc
+lost-fails (Some own) bytes good fault at = let clash : false ≡ true = good in absurd cc
+
+-- the leaves that it accessed
+pub asks-lost : {c : Configuration} {these : ℕ → Bool} {old new : List Device} (parity : Option Parity) (lost : Option IoFault) (bytes : List ℕ) → (HasNoParity c → parity ≡ None) → ((fault : IoFault) → lost ≡ Some fault → IsHealed parity fault)
+    → AsksOnly (HasNoParity c) these old new (row_answer (Ok lost) bytes) → AsksOnly {A = Unit {0}} (HasNoParity c) these old new (Ok tt)
+asks-lost parity None bytes lacks heals p = asks-as (Ok tt) tt (λ failures. refl) p
+asks-lost parity (Some fault) bytes lacks heals p = record { leaf = p.leaf; fault = tt; ends = λ none. unprotected parity (lacks none) (heals-some parity fault (heals fault refl)) }
 
 -- those of a block whose spare was vain, which may be a device's only with parity
 pub asks-vain : {A B : Type 0} {c : Configuration} {these : ℕ → Bool} {old new : List Device} (parity : Option Parity) (own vain : IoFault) → IsHealed parity own → (HasNoParity c → parity ≡ None) → NamesOneOf these own

@@ -9,6 +9,7 @@ pub mod BlocksAtLemmas
 pub mod BlocksLemmas
 pub mod ReadBlockLemmas
 pub mod NextBlockLemmas
+pub mod NextCallLemmas
 pub mod NextSettledLemmas
 pub mod SettledLemmas
 pub mod SpentLemmas

@@ -1,5 +1,6 @@
 -- Whole data blocks that were read at once, gone through one after another.
-use Rattle.std.proofs.Common.{◌≡◌, ℕ, ◌+◌, ◌-◌, ◌*◌, ◌/◌, ◌%◌, ◌<◌, ◌≤◌, ◌^◌, max, ◌⊎◌, All, Bool, false, List, [], ◌++◌, length, get_or, map, take, drop, Result, Ok, Err, inl, inr, refl, sym, ap, ◌∙◌, subst, arith}
+use Rattle.std.proofs.Common.{◌≡◌, ℕ, ◌+◌, ◌-◌, ◌*◌, ◌/◌, ◌%◌, ◌<◌, ◌≤◌, ◌^◌, max, ◌⊎◌, All, Bool, false, true, IsTrue, List, [], ◌++◌, length, get_or, map, take, drop, Option, None, Some, Result, Ok, Err, inl, inr, refl, sym, ap, ◌∙◌, subst, arith, ltb-false, ltb-true}
+use Rattle.std.specs.Prelude.{is_some, nat_lt}
 use Rattle.std.proofs.lemmas.Bool.{cases_lt}
 use Rattle.std.proofs.lemmas.List.{take_all, length-map, length-take, length-take-le, length-drop, drop-drop, drop-append-le, take-append-le, get_or-drop, get_or-map}
 use Rattle.std.proofs.lemmas.List.Elements.{All-nil}
@@ -14,6 +15,7 @@ use Rattle.tree_shape.specs.Shape.{levels}
 use Rattle.hash_tree.specs.Tree.{cut}
 use Rattle.hash_tree.proofs.lemmas.PackingLemmas.{length-cut, div_ceil-exact, get_or-cut_whole}
 use Rattle.block_device.specs.Device.{Device}
+use Rattle.dm_table.specs.declared.parity.Parity.{Parity}
 use Rattle.dm_table.specs.declared.verity.Verity.{Verity}
 use Rattle.stack_rules.specs.declared.lower.Lower.{Lower}
 use Rattle.stack_rules.specs.Records.{Configuration}
@@ -21,6 +23,7 @@ use Rattle.stack_rules.specs.Names.{mapped, size}
 use Rattle.stack_rules.specs.Descend.{read_cost}
 use Rattle.stack_rules.specs.Trees.{tree_of, block_sectors}
 use Rattle.stack_meaning.specs.declared.fault.IoFault.{IoFault}
+use Rattle.stack_engine.specs.Healing.{IsHealed, alone_after, row_answer}
 use Rattle.stack_lines.specs.declared.source.VerityPart.{VerityPart}
 use Rattle.stack_lines.specs.declared.source.Source.TheVariants.{Blocks}
 use Rattle.stack_meaning.specs.Changes.{AllWhole}
@@ -36,7 +39,7 @@ use Rattle.stack_lines.specs.Budgets.{ReadsAtMost, part_budget}
 use Rattle.stack_engine.specs.Held.{IsHeld}
 use Rattle.stack_lines.specs.Extents.{IsExtent}
 use Rattle.stack_lines.specs.Sources.{ReadsSource}
-use Rattle.stack_lines.specs.Walks.{block_in, spare_cost, GetsChain, IsWalked}
+use Rattle.stack_lines.specs.Walks.{block_in, settled_cost, GetsChain, IsWalked}
 use Rattle.verified_cache.specs.Cache.{CachedBlock}
 use Rattle.stack_meaning.proofs.lemmas.LeafListLemmas.{AreRead-none, AreRead-more, AreRead-then}
 use Rattle.stack_meaning.proofs.lemmas.LoadedLemmas.{size-small}
@@ -47,6 +50,7 @@ use Rattle.stack_lines.proofs.lemmas.VerityLineLemmas.{place-named}
 use Rattle.stack_engine.specs.declared.path.Chains.{Chains}
 use Rattle.stack_engine.specs.Bytes.{GetsBytes}
 use Rattle.stack_engine.specs.Keeping.{AreHandedOut, ReadsSourceAs}
+use Rattle.stack_engine.proofs.HealLemmas.{heals-some}
 use Rattle.stack_engine.proofs.KeepingLemmas.{finds-as, none-out}
 use Rattle.stack_engine.proofs.BlocksAtLemmas.{blocks_place, path_cost, read_cost_so_far, BlocksAt, IsRead}
 use Rattle.stack_engine.proofs.BlocksLemmas.{total-cost, none-read, blocks-stop, row-stops, blocks-read}
@@ -101,6 +105,35 @@ pub record WereHad (c : Configuration) (p : VerityPart) (n r j : ℕ) (bytes : L
 abbrev pub AreReadAhead : Configuration → VerityPart → ℕ → ℕ → List ℕ → List (List ℕ) → List Device → Type 0
 AreReadAhead c p j r bytes made old = (k : ℕ) → j ≤ k → k < r → (x : List ℕ)
     → IsRead c p old k (take (512 * block_sectors p.verity.now) (drop (512 * (k * block_sectors p.verity.now)) bytes)) (get_or made k x)
+
+-- the same unless block j is read alone, as all as far as block a are, so none is read ahead of those; there is parity for it
+pub record IsAhead (c : Configuration) (p : VerityPart) (r a j : ℕ) (bytes : List ℕ) (made : List (List ℕ)) (old : List Device) : Type 0 where
+  pub ahead : a ≤ j → AreReadAhead c p j r bytes made old
+  pub lone : j < a → r ≡ a
+  pub heals : 0 < a → IsTrue (is_some p.verity.now.parity)
+
+-- whether it is read alone
+pub together-from : (j is to : ℕ) → is ≡ to → nat_lt j is ≡ false → to ≤ j
+together-from j is to same e = omega (arith, same, ltb-false j is e)
+
+pub lone-from : (j is to : ℕ) → is ≡ to → nat_lt j is ≡ true → j < to
+lone-from j is to same e = omega (arith, same, ltb-true j is e)
+
+-- there is parity, if some block is
+pub heals-after : (parity : Option Parity) (lost : Option IoFault) (r a j : ℕ) → (0 < a → IsTrue (is_some parity)) → ((fault : IoFault) → lost ≡ Some fault → IsHealed parity fault) → j < alone_after lost r a → IsTrue (is_some parity)
+heals-after parity None r a j before heals low = before (omega (arith, low))
+heals-after parity (Some fault) r a j before heals low = heals-some parity fault (heals fault refl)
+
+-- after block j
+pub next-kept : {c : Configuration} {p : VerityPart} {r a j : ℕ} {bytes : List ℕ} {made : List (List ℕ)} {old : List Device} (written : List ℕ) → IsAhead c p r a j bytes made old → (AreReadAhead c p j r bytes made old → AreReadAhead c p (j + 1) r written made old) → IsAhead c p r a (j + 1) written made old
+next-kept {r = r} {a = a} {j = j} written kept step = record {
+  ahead = λ low. elim (cases_lt j a) [
+    | inl alone ↦ λ k from below x. absurd (omega (arith, low, alone, kept.lone alone, from, below))
+    | inr high ↦ step (kept.ahead high)
+  ];
+  lone = λ low. kept.lone (omega (arith, low));
+  heals = kept.heals;
+}
 
 -- Block j is next: those before it were had, the way to it was walked, and data were read as far as block r, with so many spares.
 pub record IsNext (c : Configuration) (p : VerityPart) (n r j spares : ℕ) (bytes expected : List ℕ) (path : List (List ℕ)) (did : LeafRead) : Type 0 where
@@ -239,8 +272,9 @@ row-covers {r = r} {j = j} some taken = elim (cases_lt j r) [ inl low ↦ omega 
 
 -- ---- before a turn
 
--- The blocks before block j were had, data were read as far as block r, and the bytes are as many as those of the buffer `start`.
-pub record AreChecked (c : Configuration) (p : VerityPart) (chains : Chains) (start : List ℕ) (r j : ℕ) (bytes : List ℕ) (made : List (List ℕ)) (path : List CachedBlock) (old new : List Device) (before now : List FoundRecord) : Type 0 where
+-- The blocks before block j were had, data were read as far as block r, those as far as block a alone, and the bytes are as many as
+-- those of the buffer `start`.
+pub record AreChecked (c : Configuration) (p : VerityPart) (chains : Chains) (start : List ℕ) (r a j : ℕ) (bytes : List ℕ) (made : List (List ℕ)) (path : List CachedBlock) (old new : List Device) (before now : List FoundRecord) : Type 0 where
   pub size : length bytes ≡ length start
   pub room : length made ≡ 2048
   pub within : j ≤ length start / 512 / block_sectors p.verity.now
@@ -249,12 +283,13 @@ pub record AreChecked (c : Configuration) (p : VerityPart) (chains : Chains) (st
   pub out : AreHandedOut chains before after now
   pub held : All (IsHeld c new) path
   pub had : WereHad c p (length start / 512) r j bytes (record { old = old; new = new; before = before; after = after })
-  pub ahead : AreReadAhead c p j r bytes made old
+  pub ahead : IsAhead c p r a j bytes made old
 
-pub checked-as : {c : Configuration} {p : VerityPart} {chains : Chains} {start : List ℕ} {r to j : ℕ} {bytes : List ℕ} {made : List (List ℕ)} {path : List CachedBlock} {old new : List Device} {before now : List FoundRecord} → to ≡ r
-    → AreChecked c p chains start r j bytes made path old new before now → AreChecked c p chains start to j bytes made path old new before now
-checked-as {c = c} {p = p} {chains = chains} {start = start} {j = j} {bytes = bytes} {made = made} {path = path} {old = old} {new = new} {before = before} {now = now} same checked =
-    subst (λ (k : ℕ). AreChecked c p chains start k j bytes made path old new before now) (sym same) checked
+pub checked-as : {c : Configuration} {p : VerityPart} {chains : Chains} {start : List ℕ} {r a to lone j : ℕ} {bytes : List ℕ} {made : List (List ℕ)} {path : List CachedBlock} {old new : List Device} {before now : List FoundRecord} → to ≡ r → lone ≡ a
+    → AreChecked c p chains start r a j bytes made path old new before now → AreChecked c p chains start to lone j bytes made path old new before now
+checked-as {c = c} {p = p} {chains = chains} {start = start} {a = a} {to = to} {j = j} {bytes = bytes} {made = made} {path = path} {old = old} {new = new} {before = before} {now = now} same also checked =
+    subst (λ (k : ℕ). AreChecked c p chains start to k j bytes made path old new before now) (sym also)
+    (subst (λ (k : ℕ). AreChecked c p chains start k a j bytes made path old new before now) (sym same) checked)
 
 -- block j, whose number in the line is counted from the part's first sector by s sectors a block
 pub record IsTurn (p : VerityPart) (start : List ℕ) (s r j : ℕ) (bytes : List ℕ) : Type 0 where
@@ -296,7 +331,7 @@ blocks-long {p = p} start bytes j b same whole all =
 
 module _ {c : Configuration} {p : VerityPart} {found : List FoundRecord} {start : List ℕ} (b : BlocksAt c p (length start / 512) found) where
   -- none of them yet
-  pub checked-none : (chains : Chains) {old : List Device} (made : List (List ℕ)) (path : List CachedBlock) → length made ≡ 2048 → path ≡ [] → AllKept c old found → AreChecked c p chains start 0 0 start made path old old found found
+  pub checked-none : (chains : Chains) {old : List Device} (made : List (List ℕ)) (path : List CachedBlock) → length made ≡ 2048 → path ≡ [] → AllKept c old found → AreChecked c p chains start 0 0 0 start made path old old found found
   checked-none chains {old = old} made path room none kept = record {
     size = refl;
     room = room;
@@ -306,10 +341,10 @@ module _ {c : Configuration} {p : VerityPart} {found : List FoundRecord} {start 
     out = none-out chains found;
     held = subst (All (IsHeld c old)) (sym none) (All-nil (IsHeld c old));
     had = none-had b start kept;
-    ahead = λ k low below. absurd (omega (arith, below));
+    ahead = record { ahead = λ none k low below. absurd (omega (arith, below)); lone = λ low. absurd (omega (arith, low)); heals = λ low. absurd (omega (arith, low)) };
   }
 
-  pub turn-at : {chains : Chains} {s r j : ℕ} {bytes : List ℕ} {made : List (List ℕ)} {path : List CachedBlock} {old new : List Device} {before now : List FoundRecord} → AreChecked c p chains start r j bytes made path old new before now
+  pub turn-at : {chains : Chains} {s r a j : ℕ} {bytes : List ℕ} {made : List (List ℕ)} {path : List CachedBlock} {old new : List Device} {before now : List FoundRecord} → AreChecked c p chains start r a j bytes made path old new before now
       → length start % 512 ≡ 0 → s ≡ block_sectors p.verity.now → j < length start / p.verity.now.data_block → IsTurn p start s r j bytes
   turn-at {s = s} {j = j} {bytes = bytes} inv whole from more =
       let count = digest-count b start (omega (arith, whole)) in
@@ -329,7 +364,7 @@ module _ {c : Configuration} {p : VerityPart} {found : List FoundRecord} {start 
       }
 
   -- after the last one
-  pub checked-all : {chains : Chains} {r j : ℕ} {bytes : List ℕ} {made : List (List ℕ)} {path : List CachedBlock} {old new : List Device} {before now : List FoundRecord} → AreChecked c p chains start r j bytes made path old new before now
+  pub checked-all : {chains : Chains} {r a j : ℕ} {bytes : List ℕ} {made : List (List ℕ)} {path : List CachedBlock} {old new : List Device} {before now : List FoundRecord} → AreChecked c p chains start r a j bytes made path old new before now
       → length start % 512 ≡ 0 → (j < length start / p.verity.now.data_block → ⊥) → ReadsSourceAs chains c (Blocks p) (length start / 512) (record { old = old; new = new; before = before; after = now }) (Ok bytes)
   checked-all {chains = chains} {r = r} {j = j} {bytes = bytes} {old = old} {new = new} {before = before} inv whole last =
       let all : j ≡ (length start / 512) / block_sectors p.verity.now = omega (arith, last, inv.within, digest-count b start (omega (arith, whole))) in
@@ -365,7 +400,7 @@ module _ {c : Configuration} {p : VerityPart} {found : List FoundRecord} {start 
     way-fails {did = did} {new = new} fault had moved got =
         let next : j + 1 ≤ (length start / 512) / block_sectors p.verity.now = omega (arith, turn.inside) in
         let below : j ≤ (length start / 512) / block_sectors p.verity.now = omega (arith, turn.inside) in
-        let healed : ℕ = j * spare_cost (block_in c p.verity.now 0) in
+        let healed : ℕ = j * settled_cost (block_in c p.verity.now 0) in
         let most = total-cost b r (j + 1) j turn.read next below in
         let way = sum-way (r * block_sectors p.verity.now * (block_in c p.verity.now 0).on_data.cost) (path_cost c p.verity.now) j healed in
         let few : path_cost c p.verity.now ≤ (length start / 512) * read_cost c (mapped p.device.0) =
@@ -421,7 +456,7 @@ module _ {c : Configuration} {p : VerityPart} {found : List FoundRecord} {start 
 
         both-cost : read_cost_so_far c p.verity.now (r * block_sectors p.verity.now) j j + (path_cost c p.verity.now + many * block_sectors p.verity.now * read_cost c p.data) ≤ read_cost_so_far c p.verity.now (next_read * block_sectors p.verity.now) (j + 1) j
         both-cost =
-            sum-row (r * block_sectors p.verity.now * (block_in c p.verity.now 0).on_data.cost) (many * block_sectors p.verity.now * (block_in c p.verity.now 0).on_data.cost) (next_read * block_sectors p.verity.now * (block_in c p.verity.now 0).on_data.cost) (path_cost c p.verity.now) j (many * block_sectors p.verity.now * read_cost c p.data) (j * spare_cost (block_in c p.verity.now 0))
+            sum-row (r * block_sectors p.verity.now * (block_in c p.verity.now 0).on_data.cost) (many * block_sectors p.verity.now * (block_in c p.verity.now 0).on_data.cost) (next_read * block_sectors p.verity.now * (block_in c p.verity.now 0).on_data.cost) (path_cost c p.verity.now) j (many * block_sectors p.verity.now * read_cost c p.data) (j * settled_cost (block_in c p.verity.now 0))
             (cost-row r many next_read (block_sectors p.verity.now) (block_in c p.verity.now 0).on_data.cost more) (ap (λ (k : ℕ). many * block_sectors p.verity.now * k) (sym (cost b)))
 
         rest-cost : path_cost c p.verity.now + many * block_sectors p.verity.now * read_cost c p.data ≤ read_cost_so_far c p.verity.now (next_read * block_sectors p.verity.now) (j + 1) j
@@ -534,3 +569,20 @@ module _ {c : Configuration} {p : VerityPart} {found : List FoundRecord} {start 
           | inl near ↦ of-row k low near x
           | inr high ↦ of-before k high below x
         ]
+
+      -- and stay so, unless the read of the row failed, and they are read alone
+      pub row-kept : (fresh : (many ≡ 0) ⊎ (r ≤ j)) (lost : Option IoFault) {a : ℕ} {did : LeafRead} {walk new : List Device} {content_of : List ℕ} {digests : List (List ℕ)} (made : List (List ℕ)) → ((fault : IoFault) → lost ≡ Some fault → IsHealed p.verity.now.parity fault)
+          → WereHad c p (length start / 512) r j bytes did → AreRead did.new (path_cost c p.verity.now) walk
+          → GetsBytes c p.data (block_sectors p.verity.now * (p.first / block_sectors p.verity.now + j)) (many * block_sectors p.verity.now) walk new (row_answer (Ok lost) content_of) → AllWhole walk → length made ≡ 2048 → IsAhead c p r a j bytes made did.old
+          → IsPut p start j many bytes content_of → digests ≡ map (digest p.verity.now.salt) (cut p.verity.now.data_block (take (j * p.verity.now.data_block + many * p.verity.now.data_block - j * p.verity.now.data_block) (drop (j * p.verity.now.data_block) (put_mid (j * p.verity.now.data_block) (j * p.verity.now.data_block + many * p.verity.now.data_block - j * p.verity.now.data_block) bytes content_of))))
+          → IsAhead c p (max r (j + many)) (alone_after lost (max r (j + many)) a) j (put_mid (j * p.verity.now.data_block) (j * p.verity.now.data_block + many * p.verity.now.data_block - j * p.verity.now.data_block) bytes content_of) (put_mid j (j + many - j) made digests) did.old
+      row-kept fresh None made heals had moved gets whole room kept put are = record {
+        ahead = λ low. row-ahead fresh made had moved gets whole room (kept.ahead low) put are;
+        lone = λ low. elim fresh [ inl none ↦ omega (arith, none, low, kept.lone low) | inr old ↦ absurd (omega (arith, old, low, kept.lone low)) ];
+        heals = kept.heals;
+      }
+      row-kept fresh (Some fault) made heals had moved gets whole room kept put are = record {
+        ahead = λ low k from below x. absurd (omega (arith, low, from, below));
+        lone = λ low. refl;
+        heals = λ some. heals-some p.verity.now.parity fault (heals fault refl);
+      }

@@ -1,5 +1,5 @@
 -- The next one of whole data blocks that were read at once, after it is settled.
-use Rattle.std.proofs.Common.{◌≡◌, ℕ, ◌+◌, ◌-◌, ◌*◌, ◌/◌, ◌<◌, ◌≤◌, Bool, false, List, [], ◌∷◌, ◌++◌, length, get_or, take, drop, Ok, Err, sym, ap, ◌∙◌, subst, arith}
+use Rattle.std.proofs.Common.{◌≡◌, ℕ, ◌+◌, ◌-◌, ◌*◌, ◌/◌, ◌<◌, ◌≤◌, Bool, false, List, [], ◌∷◌, ◌++◌, length, get_or, take, drop, Vec, Global, Ok, Err, sym, ap, ◌∙◌, subst, arith}
 use Rattle.std.proofs.lemmas.List.{length-take-le, length-drop}
 use Rattle.std.proofs.lemmas.Slice.{take-put_mid_below, between-put_mid}
 use Rattle.std.proofs.Math.Seq.{take-add}
@@ -23,11 +23,11 @@ use Rattle.stack_meaning.specs.Places.{LeafRead}
 use Rattle.stack_meaning.specs.Reading.{Finds, Gets}
 use Rattle.stack_lines.specs.Budgets.{ReadsAtMost, part_budget}
 use Rattle.stack_lines.specs.Sources.{ReadsSource}
-use Rattle.stack_lines.specs.Walks.{block_in, spare_cost, spare_expected, GetsChain}
+use Rattle.stack_lines.specs.Walks.{block_in, data_expected, settled_cost, spare_expected, GetsChain}
 use Rattle.stack_meaning.proofs.lemmas.LeafListLemmas.{AreRead-more, AreRead-then}
 use Rattle.stack_engine.proofs.BlocksAtLemmas.{blocks_place, read_cost_so_far, BlocksAt, IsRead}
-use Rattle.stack_engine.proofs.BlocksLemmas.{heal-stops, total-cost, before-more, none-more, blocks-more, blocks-full, blocks-read}
-use Rattle.stack_engine.proofs.ReadBlockLemmas.{block-other}
+use Rattle.stack_engine.proofs.BlocksLemmas.{alone-stops, heal-stops, total-cost, before-more, none-more, blocks-more, blocks-full, blocks-read}
+use Rattle.stack_engine.proofs.ReadBlockLemmas.{block-lost, block-other}
 use Rattle.stack_engine.proofs.lemmas.BlockLemmas.{distinct-push}
 use Rattle.stack_engine.proofs.SpentLemmas.{had-spent}
 use Rattle.stack_engine.specs.Healing.{unhealed}
@@ -60,12 +60,12 @@ module _ {c : Configuration} {p : VerityPart} {n : ℕ} {found : List FoundRecor
     digest-made made x ahead within = (was-read made x ahead within).made_is
 
     -- it was settled, maybe by its spare
-    module _ {new : List Device} (more : AreRead did.new (spare_cost (block_in c p.verity.now 0)) new) where
+    module _ {new : List Device} (more : AreRead did.new (settled_cost (block_in c p.verity.now 0)) new) where
       abbrev after : LeafRead
       after = record { old = did.old; new = new; before = did.before; after = did.after }
 
-      one-more : read_cost_so_far c p.verity.now (r * block_sectors p.verity.now) (j + 1) j + spare_cost (block_in c p.verity.now 0) ≤ read_cost_so_far c p.verity.now (r * block_sectors p.verity.now) (j + 1) (j + 1)
-      one-more = omega (arith, add-mul j 1 (spare_cost (block_in c p.verity.now 0)))
+      one-more : read_cost_so_far c p.verity.now (r * block_sectors p.verity.now) (j + 1) j + settled_cost (block_in c p.verity.now 0) ≤ read_cost_so_far c p.verity.now (r * block_sectors p.verity.now) (j + 1) (j + 1)
+      one-more = omega (arith, add-mul j 1 (settled_cost (block_in c p.verity.now 0)))
 
       all-moved-on : AreRead did.old (read_cost_so_far c p.verity.now (r * block_sectors p.verity.now) (j + 1) (j + 1)) new
       all-moved-on = AreRead-more one-more (AreRead-then next.moved more)
@@ -92,10 +92,18 @@ module _ {c : Configuration} {p : VerityPart} {n : ℕ} {found : List FoundRecor
           (λ fault is. block-other b j next.later next.walked _ _ (sym same ∙ used) (was-read made x ahead (within used)) other next.moved fault
           (subst (λ (v : IoFault). Gets (spare_expected (λ (x : List ℕ). x) (block_in c p.verity.now (p.first / block_sectors p.verity.now + j)) expected) did.new new (Err v)) is got)) next.rest got)
 
-      -- it is ignored, or has the digest, or its spare has: its chain is there
+      -- it can't be read alone
+      pub alone-fails : (fault : IoFault) → Gets (data_expected (λ (x : Vec ℕ Global). x.items) (block_in c p.verity.now (p.first / block_sectors p.verity.now + j)) expected) did.new new (Err fault) → ReadsSource c (Blocks p) n after (Err fault)
+      alone-fails fault got =
+          blocks-read b after (Err fault) r (j + 1) (j + 1) read up-to up-to all-moved-on
+          (alone-stops b j inside next.so_far rest-on few expected fault
+          (λ why is. block-lost b j next.later next.walked next.moved why
+          (subst (λ (y : IoFault). Gets (data_expected (λ (x : Vec ℕ Global). x.items) (block_in c p.verity.now (p.first / block_sectors p.verity.now + j)) expected) did.new new (Err y)) is got)) next.rest got)
+
+      -- it is ignored, or has the digest, or its spare has, or it was read alone: its chain is there
       module _ (block : List ℕ) (front : take (512 * (j * block_sectors p.verity.now)) out ≡ take (512 * (j * block_sectors p.verity.now)) bytes)
           (wide : length block ≡ length (take (j * p.verity.now.data_block + p.verity.now.data_block - j * p.verity.now.data_block) (drop (j * p.verity.now.data_block) out))) where
-        abbrev written : List ℕ
+        abbrev pub written : List ℕ
         written = put_mid (j * p.verity.now.data_block) (j * p.verity.now.data_block + p.verity.now.data_block - j * p.verity.now.data_block) out block
 
         abbrev content : List ℕ

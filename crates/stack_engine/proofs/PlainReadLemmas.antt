@@ -10,7 +10,7 @@ use Rattle.stack_engine.specs.Pieces.{PieceGives}
 use Rattle.stack_engine.specs.Unrestored.{HasNoParity}
 use Rattle.stack_engine.specs.Restored.{restored_after}
 use Rattle.stack_engine.proofs.lemmas.NoParityLemmas.{HasNone, served-none}
-use Rattle.stack_engine.specs.SectorCalls.{DataPlace, spare_of, ReadOf, ReadCalls, leaf_read, leaf_unread, none_read, line_read, line_unread, units_read, units_unread, part_read, part_unread, zeros_read, fails_read, chain_found, data_read, data_unread, data_full, blocks_read, block_checked, block_differs, block_unread, block_full, hash_kept, hash_full, hash_read, way_had, way_healed, way_lost, way_down, way_stops, way_full, one_ignored, one_read, one_healed, one_kept, one_fetched, next_ignored, next_checked, next_healed, next_differs, together_read, together_unread, blocks_end, blocks_next, blocks_full, spare_none, spare_full, spare_checked, spare_differs, spare_unread, sums_past, sums_added, sums_unread, parity_added, parity_unread}
+use Rattle.stack_engine.specs.SectorCalls.{DataPlace, spare_of, ReadOf, ReadCalls, leaf_read, leaf_unread, none_read, line_read, line_unread, units_read, units_unread, part_read, part_unread, zeros_read, fails_read, chain_found, data_read, data_unread, data_full, blocks_read, block_checked, block_differs, block_unread, block_full, hash_kept, hash_full, hash_read, way_had, way_healed, way_lost, way_down, way_stops, way_full, one_ignored, one_read, one_healed, one_kept, one_fetched, next_ignored, next_checked, next_healed, next_differs, next_alone, next_unread, together_read, together_lost, together_unread, blocks_end, blocks_next, blocks_full, spare_none, spare_full, spare_checked, spare_differs, spare_unread, sums_past, sums_added, sums_unread, parity_added, parity_unread}
 use Rattle.stack_engine.specs.Stacks.{StackRecord}
 
 clash : {parity : Option Parity} {q : Parity} {X : Type 0} → parity ≡ None → parity ≡ Some q → X
@@ -71,11 +71,14 @@ reads-same none (next_ignored last is a) plain = reads-same none a plain
 reads-same none (next_checked block last used is a) plain = reads-same none a plain
 reads-same none (next_healed block last used len other a b) plain = absurd (spare-vain plain a).1
 reads-same none (next_differs left block ahead last used len other a) plain = (spare-vain plain a).0
+reads-same none (next_alone a b) plain = reads-same none b plain ∙ reads-same none a plain
+reads-same none (next_unread left alone a) plain = reads-same none a plain
 reads-same none (together_read used row a b) plain = reads-same none b plain ∙ reads-same none a tt
-reads-same none (together_unread used row a) plain = reads-same none a tt
-reads-same none (blocks_end p ahead) plain = refl
+reads-same none (together_lost used row heals a b) plain = reads-same none b plain ∙ reads-same none a tt
+reads-same none (together_unread used row settled a) plain = reads-same none a tt
+reads-same none (blocks_end p alone ahead) plain = refl
 reads-same none (blocks_next a) plain = reads-same none a plain
-reads-same none (blocks_full p left ahead) plain = refl
+reads-same none (blocks_full p left alone ahead) plain = refl
 reads-same none (spare_none p expected lacks) plain = refl
 reads-same none (spare_full p expected) plain = refl
 reads-same none (spare_checked has a good) plain = clash plain has

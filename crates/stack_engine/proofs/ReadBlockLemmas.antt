@@ -1,5 +1,5 @@
 -- A data block that was read together with others: its chain, or its fault.
-use Rattle.std.proofs.Common.{◌≡◌, ℕ, ◌+◌, ◌*◌, ◌/◌, ◌<◌, true, false, List, length, Result, Ok, Err, inl, refl, sym, ap, ◌∙◌, subst, arith}
+use Rattle.std.proofs.Common.{◌≡◌, ℕ, ◌+◌, ◌*◌, ◌/◌, ◌<◌, true, false, List, length, Vec, Global, Result, Ok, Err, inl, refl, sym, ap, ◌∙◌, subst, arith}
 use Rattle.std.proofs.Math.Nat.{add-mul, mul_comm}
 use Rattle.tree_shape.specs.Digests.{digest}
 use Rattle.block_device.specs.Device.{Device}
@@ -11,13 +11,13 @@ use Rattle.stack_lines.specs.declared.source.VerityPart.{VerityPart}
 use Rattle.stack_meaning.specs.Outcomes.{Images, Outcome, mismatch, span, then_outcome}
 use Rattle.stack_meaning.specs.Blocks.{checked, is_ignored}
 use Rattle.stack_meaning.specs.Found.{FoundRecord}
-use Rattle.stack_meaning.specs.Places.{place_of}
+use Rattle.stack_meaning.specs.Places.{Expected, place_of}
 use Rattle.stack_meaning.specs.Agreement.{AgreesOn}
 use Rattle.stack_meaning.specs.Reading.{Gets, IsCertain}
 use Rattle.stack_meaning.specs.declared.fault.Fault.{Fault}
 use Rattle.stack_meaning.specs.Leaves.{steady_images, AreSteady, AreRead}
 use Rattle.stack_lines.specs.Touches.{leaves_of}
-use Rattle.stack_lines.specs.Walks.{AgreesAt, block_in, checked_expected, spare_expected, GetsChain, IsWalked}
+use Rattle.stack_lines.specs.Walks.{AgreesAt, block_in, checked_expected, data_expected, spare_expected, GetsChain, IsWalked}
 use Rattle.stack_meaning.proofs.lemmas.LeafListLemmas.{AreRead-none}
 use Rattle.stack_meaning.proofs.lemmas.CheckedLemmas.{checked-same}
 use Rattle.stack_engine.proofs.HealLemmas.{checked-other}
@@ -103,3 +103,23 @@ module _ {c : Configuration} {p : VerityPart} {n : ℕ} {found : List FoundRecor
             may = tt;
             exact = λ sure. let at_last = spare-means rest sure in at_last.1 ∙ got.exact at_last.0;
           }))
+
+  -- it is read alone, after more was read
+  module _ (j : ℕ) {old mid now at : List Device} {r q : ℕ} (later : AreRead old r now) {expected : List ℕ} {path : List (List ℕ)} (walked : IsWalked (block_in c p.verity.now (index + j)) 0 expected path mid now) (rest : AreRead old q at) where
+    abbrev alone_wanted : Expected (Vec ℕ Global)
+    alone_wanted = data_expected (λ block. block.items) (block_in c p.verity.now (index + j)) expected
+
+    alone-means : IsCertain alone_wanted now → IsCertain alone_wanted at × (alone_wanted.means (steady_images now) ≡ alone_wanted.means (steady_images at))
+    alone-means sure =
+        let same = same-images rest later sure.steady in
+        (record { steady = same.0; agrees = λ meets. subst (AgreesAt (block_in c p.verity.now (index + j))) same.1 (sure.agrees meets) }, ap (λ (i : Images). alone_wanted.means i) same.1)
+
+    pub block-alone : {new : List Device} (block : Vec ℕ Global) → Gets alone_wanted at new (Ok block) → index + j < p.verity.now.blocks → GetsChain (block_in c p.verity.now (index + j)) mid now (Ok (record { index = index + j; content = block.items; path = path }))
+    block-alone block got there =
+        walk_ends (λ (x : Vec ℕ Global). x.items) (block_in c p.verity.now (index + j)) b.size.whole walked block there
+        (record { moved = AreRead-none _ now; may = got.may; exact = λ sure. let at_last = alone-means sure in at_last.1 ∙ got.exact at_last.0 })
+
+    pub block-lost : {new : List Device} (fault : Fault) → Gets alone_wanted at new (Err (io.Stack fault)) → GetsChain (block_in c p.verity.now (index + j)) mid now (Err (io.Stack fault))
+    block-lost fault got =
+        walk_fails (λ (x : Vec ℕ Global). x.items) (block_in c p.verity.now (index + j)) b.size.whole walked (io.Stack fault)
+        (record { moved = AreRead-none _ now; may = got.may; exact = λ sure. let at_last = alone-means sure in at_last.1 ∙ got.exact at_last.0 })

@@ -24,7 +24,7 @@ use Rattle.stack_lines.specs.declared.source.Source.TheVariants.{Units, UnitPart
 use Rattle.stack_lines.specs.declared.units.WholeUnit.{WholeUnit}
 use Rattle.stack_lines.specs.Budgets.{ReadsAtMost, budget, crypt_budget, part_budget, source_budget}
 use Rattle.stack_lines.specs.Sources.{AreUnits, LieInUnit, IsWholeOf, from_unit, IsServed, EndsRun}
-use Rattle.stack_lines.specs.Walks.{block_in, chain_expected, spare_cost}
+use Rattle.stack_lines.specs.Walks.{block_in, chain_expected, settled_cost}
 use Rattle.stack_lines.proofs.lemmas.BudgetLemmas.{chain-cost as priced, budget-leaf, budget-apart, served-budget, units-budget, unit-budget, blocks-budget, block-budget}
 use Rattle.stack_lines.proofs.lemmas.UnitSourceLemmas.{units-of}
 use Rattle.stack_lines.proofs.lemmas.VerityLineLemmas.{place-named}
@@ -120,7 +120,7 @@ module _ {c : Configuration} {p : VerityPart} {n : ℕ} {found : List FoundRecor
   data_cost = (block_in c p.verity.now 0).on_data.cost
 
   abbrev mend : ℕ
-  mend = spare_cost (block_in c p.verity.now 0)
+  mend = settled_cost (block_in c p.verity.now 0)
 
   all-is : m * (block_sectors p.verity.now * data_cost + path_cost c p.verity.now + mend) ≤ part_budget c p n
   all-is =

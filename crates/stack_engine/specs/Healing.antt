@@ -1,5 +1,5 @@
 -- A block, and its spare where the block's own read ended in a fault.
-use Rattle.std.specs.Prelude.{◌≡◌, ℕ, Bool, false, IsTrue, Option, None, is_some, Result, Ok, Err}
+use Rattle.std.specs.Prelude.{◌≡◌, ℕ, Bool, false, IsTrue, List, Option, None, Some, is_some, Result, Ok, Err}
 use Rattle.dm_table.specs.declared.parity.Parity.{Parity}
 use Rattle.dm_table.specs.declared.verity.Verity.{Verity}
 use Rattle.stack_rules.specs.Records.{Configuration}
@@ -47,3 +47,22 @@ unhealed own io.NoMemory = io.NoMemory
 abbrev pub healed_result : {A : Type 0} → IoFault → Result A IoFault → Result A IoFault
 healed_result fault (Ok x) = Ok x
 healed_result fault (Err vain) = Err (unhealed fault vain)
+
+-- ---- blocks that are read together
+
+-- The read of a row ended in no fault; or in one that is healed, so each of its blocks is read alone; or in another one.
+abbrev pub IsLost : Option Parity → Result (Option IoFault) IoFault → Type 0
+IsLost parity (Ok None) = Unit {0}
+IsLost parity (Ok (Some fault)) = IsHealed parity fault
+IsLost parity (Err fault) = IsSettled parity fault
+
+-- what the read of the row answered: these bytes, or the fault
+abbrev pub row_answer : Result (Option IoFault) IoFault → List ℕ → Result (List ℕ) IoFault
+row_answer (Ok None) bytes = Ok bytes
+row_answer (Ok (Some fault)) bytes = Err fault
+row_answer (Err fault) bytes = Err fault
+
+-- how many blocks are scanned by reads of each alone: after a row that ended in a fault all that are scanned
+abbrev pub alone_after : Option IoFault → ℕ → ℕ → ℕ
+alone_after None read alone = alone
+alone_after (Some fault) read alone = read

@@ -125,11 +125,12 @@ parity_first p q = parity_start p.verity q (p.index % round_count q)
 abbrev pub block_part : VerityPart → ℕ → List ℕ → List ℕ
 block_part x n content = take (512 * n) (drop (512 * (x.first % block_sectors x.verity.now)) content)
 
--- what follows the hash blocks: the one data block; or a part of it alone; or so many data blocks, of which these bytes were read before
+-- what follows the hash blocks: the one data block; or a part of it alone; or so many data blocks, of which the first so many are read
+-- alone, and those after them were read before, as far as these bytes go
 pub data DataRead : Type 0 where
   one_block : DataRead
   part_block : DataRead
-  blocks_left : ℕ → List ℕ → DataRead
+  blocks_left : ℕ → ℕ → List ℕ → DataRead
 
 -- what is read of one data block: a part of it alone, or all of it
 abbrev pub one_asked : Bool → DataRead
@@ -160,15 +161,15 @@ pub record AreReadTogether (p : DataPlace) (last : List ℕ) (left many : ℕ) :
 
 -- What is read: n sectors of a source; an expected block, or one that may be kept; the hash block of a level on the way to a data
 -- block, of which a digest is expected; what is beneath so many levels of hash blocks, when a digest is expected of the next block,
--- after a hash block of those bytes; so many data blocks from a place on, of which those bytes were read before; the spare of a
--- block, of which a digest is expected; what is added to sums for it, from a position of its round on.
+-- after a hash block of those bytes; so many data blocks from a place on, of which the first so many are read alone, and those bytes
+-- were read before; the spare of a block, of which a digest is expected; what is added to sums for it, from a position of its round on.
 pub data ReadOf : Type 0 where
   sectors_of : Source → ℕ → ReadOf
   block_of : ExpectedBlock → ReadOf
   hash_of : ExpectedBlock → ReadOf
   way_of : DataPlace → ℕ → List ℕ → ReadOf
   data_of : DataPlace → ℕ → List ℕ → List ℕ → DataRead → ReadOf
-  blocks_of : DataPlace → ℕ → List ℕ → ReadOf
+  blocks_of : DataPlace → ℕ → ℕ → List ℕ → ReadOf
   spare_of : DataPlace → List ℕ → ReadOf
   sums_of : DataPlace → Parity → ℕ → List ℕ → ReadOf
 
@@ -204,7 +205,7 @@ pub data ReadCalls (c : Configuration) : ReadOf → List LeafCall → ℕ → �
   data_unread : {from to : ℕ} {x : VerityPart} {calls : List LeafCall} {fault : IoFault} (n : ℕ) → ReadCalls c (whole_data (place_at x (x.first / block_sectors x.verity.now)) (asked_of x n)) calls from to (Err fault) → ReadCalls c (sectors_of (Block x) n) calls from to (Err fault)
   data_full : {from to : ℕ} {x : VerityPart} {calls : List LeafCall} {content : List ℕ} (n : ℕ) → ReadCalls c (whole_data (place_at x (x.first / block_sectors x.verity.now)) (asked_of x n)) calls from to (Ok content) → ReadCalls c (sectors_of (Block x) n) calls from to (Err io.NoMemory)
   -- of whole data blocks
-  blocks_read : {from to : ℕ} {x : VerityPart} {n : ℕ} {calls : List LeafCall} {answer : Result (List ℕ) IoFault} → ReadCalls c (blocks_of (place_at x (x.first / block_sectors x.verity.now)) (n / block_sectors x.verity.now) []) calls from to answer → ReadCalls c (sectors_of (Blocks x) n) calls from to answer
+  blocks_read : {from to : ℕ} {x : VerityPart} {n : ℕ} {calls : List LeafCall} {answer : Result (List ℕ) IoFault} → ReadCalls c (blocks_of (place_at x (x.first / block_sectors x.verity.now)) (n / block_sectors x.verity.now) 0 []) calls from to answer → ReadCalls c (sectors_of (Blocks x) n) calls from to answer
   -- an expected block: its sectors, which have the digest; or they have another one, or can't be read; or memory runs out before it
   block_checked : {from to : ℕ} {x : ExpectedBlock} {calls : List LeafCall} {bytes : List ℕ} → ReadCalls c (sectors_of (Below x.extent.lower x.extent.first) x.extent.sectors) calls from to (Ok bytes) → digest x.salt bytes ≡ x.digest → ReadCalls c (block_of x) calls from to (Ok bytes)
   block_differs : {from to : ℕ} {x : ExpectedBlock} {calls : List LeafCall} {bytes : List ℕ} → ReadCalls c (sectors_of (Below x.extent.lower x.extent.first) x.extent.sectors) calls from to (Ok bytes) → (digest x.salt bytes ≡ x.digest → ⊥) → ReadCalls c (block_of x) calls from to (Err (io.Stack why.Mismatch))
@@ -234,21 +235,27 @@ pub data ReadCalls (c : Configuration) : ReadOf → List LeafCall → ℕ → �
   one_fetched : {from to : ℕ} {p : DataPlace} {expected last : List ℕ} {calls : List LeafCall} {answer : Result (List ℕ) IoFault} → ReadCalls c (data_of p zero expected last one_block) calls from to answer → ReadCalls c (data_of p zero expected last part_block) calls from to answer
   -- whole data blocks, the next of which was read before: it is ignored, or has the digest, or differs and its spare is read, and
   -- those after it are read; or it differs, and its spare can't be read
-  next_ignored : {from to : ℕ} {p : DataPlace} {left : ℕ} {expected ahead : List ℕ} (last : List ℕ) {calls : List LeafCall} {answer : Result (List ℕ) IoFault} → is_ignored p.verity expected ≡ true → ReadCalls c (blocks_of (next_place p) left (drop p.verity.data_block ahead)) calls from to answer
-      → ReadCalls c (data_of p zero expected last (blocks_left (suc left) ahead)) calls from to (bytes_before (zero_block p.verity) answer)
-  next_checked : {from to : ℕ} {p : DataPlace} {left : ℕ} {expected ahead : List ℕ} (block last : List ℕ) {calls : List LeafCall} {answer : Result (List ℕ) IoFault} → is_ignored p.verity expected ≡ false → IsBlockOfDigest (block_sectors p.verity) p.verity.salt expected block → ReadCalls c (blocks_of (next_place p) left ahead) calls from to answer
-      → ReadCalls c (data_of p zero expected last (blocks_left (suc left) (block ++ ahead))) calls from to (bytes_before block answer)
-  next_healed : {from mid to : ℕ} {p : DataPlace} {left : ℕ} {expected ahead spare : List ℕ} (block last : List ℕ) {calls later : List LeafCall} {answer : Result (List ℕ) IoFault} → is_ignored p.verity expected ≡ false → length block ≡ 512 * block_sectors p.verity → (digest p.verity.salt block ≡ expected → ⊥) → ReadCalls c (spare_of p expected) calls from mid (Ok spare) → ReadCalls c (blocks_of (next_place p) left ahead) later (one_more mid) to answer → ReadCalls c (data_of p zero expected last (blocks_left (suc left) (block ++ ahead))) (calls ++ later) from to (bytes_before spare answer)
-  next_differs : {from to : ℕ} {p : DataPlace} {expected : List ℕ} (left : ℕ) (block ahead last : List ℕ) {calls : List LeafCall} {vain : IoFault} → is_ignored p.verity expected ≡ false → length block ≡ 512 * block_sectors p.verity → (digest p.verity.salt block ≡ expected → ⊥) → ReadCalls c (spare_of p expected) calls from to (Err vain) → ReadCalls c (data_of p zero expected last (blocks_left left (block ++ ahead))) calls from to (Err (unhealed (io.Stack why.Mismatch) vain))
-  -- it wasn't read before: it is read together with later ones
+  next_ignored : {from to : ℕ} {p : DataPlace} {left : ℕ} {expected ahead : List ℕ} (last : List ℕ) {calls : List LeafCall} {answer : Result (List ℕ) IoFault} → is_ignored p.verity expected ≡ true → ReadCalls c (blocks_of (next_place p) left 0 (drop p.verity.data_block ahead)) calls from to answer
+      → ReadCalls c (data_of p zero expected last (blocks_left (suc left) 0 ahead)) calls from to (bytes_before (zero_block p.verity) answer)
+  next_checked : {from to : ℕ} {p : DataPlace} {left : ℕ} {expected ahead : List ℕ} (block last : List ℕ) {calls : List LeafCall} {answer : Result (List ℕ) IoFault} → is_ignored p.verity expected ≡ false → IsBlockOfDigest (block_sectors p.verity) p.verity.salt expected block → ReadCalls c (blocks_of (next_place p) left 0 ahead) calls from to answer
+      → ReadCalls c (data_of p zero expected last (blocks_left (suc left) 0 (block ++ ahead))) calls from to (bytes_before block answer)
+  next_healed : {from mid to : ℕ} {p : DataPlace} {left : ℕ} {expected ahead spare : List ℕ} (block last : List ℕ) {calls later : List LeafCall} {answer : Result (List ℕ) IoFault} → is_ignored p.verity expected ≡ false → length block ≡ 512 * block_sectors p.verity → (digest p.verity.salt block ≡ expected → ⊥) → ReadCalls c (spare_of p expected) calls from mid (Ok spare) → ReadCalls c (blocks_of (next_place p) left 0 ahead) later (one_more mid) to answer → ReadCalls c (data_of p zero expected last (blocks_left (suc left) 0 (block ++ ahead))) (calls ++ later) from to (bytes_before spare answer)
+  next_differs : {from to : ℕ} {p : DataPlace} {expected : List ℕ} (left : ℕ) (block ahead last : List ℕ) {calls : List LeafCall} {vain : IoFault} → is_ignored p.verity expected ≡ false → length block ≡ 512 * block_sectors p.verity → (digest p.verity.salt block ≡ expected → ⊥) → ReadCalls c (spare_of p expected) calls from to (Err vain) → ReadCalls c (data_of p zero expected last (blocks_left left 0 (block ++ ahead))) calls from to (Err (unhealed (io.Stack why.Mismatch) vain))
+  -- it is read alone, as the one data block is, and so are those after it; or it can't be read
+  next_alone : {from mid to : ℕ} {p : DataPlace} {left alone : ℕ} {expected last block : List ℕ} {calls later : List LeafCall} {answer : Result (List ℕ) IoFault} → ReadCalls c (data_of p zero expected last one_block) calls from mid (Ok block) → ReadCalls c (blocks_of (next_place p) left alone []) later mid to answer
+      → ReadCalls c (data_of p zero expected last (blocks_left (suc left) (suc alone) [])) (calls ++ later) from to (bytes_before block answer)
+  next_unread : {from to : ℕ} {p : DataPlace} {expected last : List ℕ} (left alone : ℕ) {calls : List LeafCall} {fault : IoFault} → ReadCalls c (data_of p zero expected last one_block) calls from to (Err fault) → ReadCalls c (data_of p zero expected last (blocks_left left (suc alone) [])) calls from to (Err fault)
+  -- it wasn't read before: it is read together with later ones; and if that ends in a fault that is healed, each of them is read alone
   together_read : {from mid to : ℕ} {p : DataPlace} {left many : ℕ} {expected last bytes : List ℕ} {calls later : List LeafCall} {answer : Result (List ℕ) IoFault} → is_ignored p.verity expected ≡ false → AreReadTogether p last left many → ReadCalls c (sectors_of (Below p.on_data (block_sectors p.verity * p.index)) (many * block_sectors p.verity)) calls from mid (Ok bytes)
-      → ReadCalls c (data_of p zero expected last (blocks_left left bytes)) later mid to answer → ReadCalls c (data_of p zero expected last (blocks_left left [])) (calls ++ later) from to answer
-  together_unread : {from to : ℕ} {p : DataPlace} {left many : ℕ} {expected last : List ℕ} {calls : List LeafCall} {fault : IoFault} → is_ignored p.verity expected ≡ false → AreReadTogether p last left many → ReadCalls c (sectors_of (Below p.on_data (block_sectors p.verity * p.index)) (many * block_sectors p.verity)) calls from to (Err fault)
-      → ReadCalls c (data_of p zero expected last (blocks_left left [])) calls from to (Err fault)
+      → ReadCalls c (data_of p zero expected last (blocks_left left 0 bytes)) later mid to answer → ReadCalls c (data_of p zero expected last (blocks_left left 0 [])) (calls ++ later) from to answer
+  together_lost : {from mid to : ℕ} {p : DataPlace} {left many : ℕ} {expected last : List ℕ} {calls later : List LeafCall} {fault : IoFault} {answer : Result (List ℕ) IoFault} → is_ignored p.verity expected ≡ false → AreReadTogether p last left many → IsHealed p.verity.parity fault
+      → ReadCalls c (sectors_of (Below p.on_data (block_sectors p.verity * p.index)) (many * block_sectors p.verity)) calls from mid (Err fault) → ReadCalls c (data_of p zero expected last (blocks_left left many [])) later mid to answer → ReadCalls c (data_of p zero expected last (blocks_left left 0 [])) (calls ++ later) from to answer
+  together_unread : {from to : ℕ} {p : DataPlace} {left many : ℕ} {expected last : List ℕ} {calls : List LeafCall} {fault : IoFault} → is_ignored p.verity expected ≡ false → AreReadTogether p last left many → IsSettled p.verity.parity fault → ReadCalls c (sectors_of (Below p.on_data (block_sectors p.verity * p.index)) (many * block_sectors p.verity)) calls from to (Err fault)
+      → ReadCalls c (data_of p zero expected last (blocks_left left 0 [])) calls from to (Err fault)
   -- no data blocks; or the way to the next one
-  blocks_end : {from : ℕ} (p : DataPlace) (ahead : List ℕ) → ReadCalls c (blocks_of p zero ahead) [] from from (Ok [])
-  blocks_next : {from to : ℕ} {p : DataPlace} {left : ℕ} {ahead : List ℕ} {calls : List LeafCall} {answer : Result (List ℕ) IoFault} → ReadCalls c (whole_data p (blocks_left (suc left) ahead)) calls from to answer → ReadCalls c (blocks_of p (suc left) ahead) calls from to answer
-  blocks_full : {from : ℕ} (p : DataPlace) (left : ℕ) (ahead : List ℕ) → ReadCalls c (blocks_of p left ahead) [] from from (Err io.NoMemory)
+  blocks_end : {from : ℕ} (p : DataPlace) (alone : ℕ) (ahead : List ℕ) → ReadCalls c (blocks_of p zero alone ahead) [] from from (Ok [])
+  blocks_next : {from to : ℕ} {p : DataPlace} {left alone : ℕ} {ahead : List ℕ} {calls : List LeafCall} {answer : Result (List ℕ) IoFault} → ReadCalls c (whole_data p (blocks_left (suc left) alone ahead)) calls from to answer → ReadCalls c (blocks_of p (suc left) alone ahead) calls from to answer
+  blocks_full : {from : ℕ} (p : DataPlace) (left alone : ℕ) (ahead : List ℕ) → ReadCalls c (blocks_of p left alone ahead) [] from from (Err io.NoMemory)
   -- the spare of a block: none without parity, or if memory runs out before it; or the sum of the other blocks of its round and of their parity, if it is read and has the digest
   spare_none : {from : ℕ} (p : DataPlace) (expected : List ℕ) → p.verity.parity ≡ None → ReadCalls c (spare_of p expected) [] from from (Err (io.Stack why.Mismatch))
   spare_full : {from : ℕ} (p : DataPlace) (expected : List ℕ) → ReadCalls c (spare_of p expected) [] from from (Err io.NoMemory)

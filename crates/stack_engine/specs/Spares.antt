@@ -21,9 +21,9 @@ use Rattle.stack_engine.specs.declared.spare.LostBlock.{LostBlock}
 use Rattle.stack_engine.specs.declared.spare.Stored.{Stored}
 use Rattle.stack_engine.specs.Healing.{healed_result}
 use Rattle.stack_engine.specs.Backings.{served}
-use Rattle.stack_engine.specs.ReadSteps.{GetsBy, ReadsOn, block_answer}
+use Rattle.stack_engine.specs.ReadSteps.{GetsBy, ReadsOn, block_answer, data_wanted}
 use Rattle.stack_engine.specs.Restored.{Served, after_spare}
-use Rattle.stack_engine.specs.SectorCalls.{DataPlace, LeadsTo, ReadsBy, parity_first, spare_of, sums_of}
+use Rattle.stack_engine.specs.SectorCalls.{DataPlace, LeadsTo, ReadsBy, data_of, one_block, parity_first, spare_of, sums_of}
 
 -- the parity of the round of a covered block is stored there, inside its device
 pub record IsStoredAt (c : Configuration) (p : DataPlace) (q : Parity) (at : Stored) : Type 0 where
@@ -82,11 +82,13 @@ pub record HealsBy {D : Type 0} (state : D → Device) (does : D → Call → D 
 
 -- it is ignored, and is zeros; or it has the digest, and stays as it was
 pub record IsAnswered (judged : JudgedBlock) (block : List ℕ) (answer : Result (List ℕ) IoFault) : Type 0 where
+  pub together : judged.alone ≡ false
   pub zeros : judged.ignored ≡ true → answer ≡ Ok (replicate (length block) 0)
   pub same : judged.ignored ≡ false → (judged.made ≡ judged.lost.digest) × (answer ≡ Ok block)
 
 -- it has another one: its spare, which is counted, and the calls that read it; or the fault
 pub record HealsRead {D : Type 0} (state : D → Device) (does : D → Call → D → Type 0) (c : Configuration) (p : DataPlace) (judged : JudgedBlock) (old new : Backing D) (answer : Result (List ℕ) IoFault) : Type 0 where
+  pub together : judged.alone ≡ false
   pub used : judged.ignored ≡ false
   pub differs : judged.made ≡ judged.lost.digest → ⊥
   pub spare : Result (List ℕ) IoFault
@@ -96,5 +98,13 @@ pub record HealsRead {D : Type 0} (state : D → Device) (does : D → Call → 
   pub counted : served new ≡ after_spare spare read
   pub given : ReadsBy does c (spare_of p judged.lost.digest) (served old) read spare
 
+-- they couldn't be read: it, read alone, and the calls that read it
+pub record ReadsAlone {D : Type 0} (state : D → Device) (does : D → Call → D → Type 0) (c : Configuration) (p : DataPlace) (judged : JudgedBlock) (old new : Backing D) (answer : Result (List ℕ) IoFault) : Type 0 where
+  pub alone : judged.alone ≡ true
+  pub own : Result (Vec ℕ Global) IoFault
+  pub is : answer ≡ block_answer own
+  pub got : GetsBy state (data_wanted c p.verity judged.lost.index judged.lost.digest) old new own
+  pub given : (last : List ℕ) → ReadsOn does c (data_of p 0 judged.lost.digest last one_block) old new (block_answer own)
+
 abbrev pub SettlesBy : {D : Type 0} → (D → Device) → (D → Call → D → Type 0) → Configuration → DataPlace → JudgedBlock → List ℕ → Backing D → Backing D → Result (List ℕ) IoFault → Type 0
-SettlesBy state does c p judged block old new answer = ((new ≡ old) × IsAnswered judged block answer) ⊎ HealsRead state does c p judged old new answer
+SettlesBy state does c p judged block old new answer = ((new ≡ old) × IsAnswered judged block answer) ⊎ (HealsRead state does c p judged old new answer ⊎ ReadsAlone state does c p judged old new answer)

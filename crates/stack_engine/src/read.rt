@@ -9,7 +9,7 @@ ghost use Rattle.stack_lines.specs.declared.source.Source.TheVariants.{Below};
 ghost use Rattle.stack_meaning.specs.Reading.{buffer_answer};
 ghost use Rattle.stack_lines.specs.Extents.{LiesInsideLower};
 ghost use Rattle.stack_lines.specs.Touches.{leaves_of};
-ghost use Rattle.stack_engine.specs.Healing.{HealsFault};
+ghost use Rattle.stack_engine.specs.Healing.{HealsFault, IsLost, row_answer};
 ghost use Rattle.stack_lines.specs.Walks.{HasDataBlock, HasVerifiedBlock, block_in};
 ghost use Rattle.stack_lines.specs.Caches.{IsPlaceOf, hash_stored};
 ghost use Rattle.stack_meaning.specs.Blocks.{is_ignored};
@@ -26,7 +26,7 @@ use crate::buffer::{fill_zeros, zero_block, zero_sectors};
 use crate::kept_data::kept_data;
 use crate::leaf::read_leaf;
 use crate::path::{Chains, PathBlock, WantedBlock, WantedData, put, stands};
-use crate::rows::{JudgedBlock, NextBlock, judge, read_as_far, row_len, settle};
+use crate::rows::{JudgedBlock, NextBlock, alone_as_far, judge, read_as_far, row_len, settle};
 use crate::spare::{
     LostBlock, add_block, add_stored, can_heal, one_more, other_extent, stored_extent, unhealed,
 };
@@ -217,7 +217,8 @@ fn read_block<D: BlockDev>(
     }
 }
 
-/// Whole data blocks of a verity line. Each is checked after the way to it was read, and read together with later ones.
+/// Whole data blocks of a verity line. Each is checked after the way to it was read, and read together with later ones; or alone, if
+/// they can't be read and the line has parity.
 #[cycle(read)]
 fn read_blocks<D: BlockDev>(
     config: &Config,
@@ -243,6 +244,7 @@ fn read_blocks<D: BlockDev>(
     let made = room.as_mut_slice();
     let mut path = Vec::new(backing.alloc);
     let mut read = 0;
+    let mut alone = 0;
     let mut at = 0;
     'checks: while at < count {
         let index = first + at as u64;
@@ -262,14 +264,15 @@ fn read_blocks<D: BlockDev>(
         let from = at * size;
         let extent = data_extent(config, verity, &tree, index);
         let row = &mut out[from..from + many * size];
-        match read_beneath(config, backing, tree.data, extent.first, row) {
+        let lost = match read_row(config, backing, verity, (tree.data, extent.first), row) {
             Err(met) => return Err(met),
-            Ok(()) => {}
-        }
+            Ok(lost) => lost,
+        };
         let row = &out[from..from + many * size];
         digest_blocks(&verity.salt, size, row, &mut made[at..at + many]);
         read = read_as_far(next, many);
-        let judged = judge(next, &expected, &made[at]);
+        alone = alone_as_far(lost, read, alone);
+        let judged = judge(next, &expected, &made[at], alone);
         let block = &mut out[from..from + size];
         match settle_block(config, backing, verity, &tree, &judged, block) {
             Err(vain) => return Err(vain),
@@ -281,6 +284,35 @@ fn read_blocks<D: BlockDev>(
         }
     }
     Ok(())
+}
+
+/// The sectors of some data blocks, of which there may be none; or the fault that ended the read, if there is parity for each block.
+#[cycle(read)]
+fn read_row<D: BlockDev>(
+    config: &Config,
+    backing: &mut Backing<D>,
+    verity: &Verity,
+    from: (Lower, u64),
+    out: &mut [u8],
+) -> Result<Option<IoFault>, IoFault>
+    requires stack { IsBacking D.state config.now backing.old }
+    requires whole { length out.old % 512 ≡ 0 }
+    requires inside { from.1 + length out.old / 512 ≤ size config.now from.0 }
+    ensures reads { GotAt D.state config.now from.0 from.1 out.old backing.old backing.new (row_answer result out.new) }
+    ensures lost { IsLost verity.now.parity result }
+    ensures cached { StaysSound D.state config.now backing.old backing.new }
+    ensures touches { Asks D.state config.now (leaves_of config.now from.0) backing.old backing.new (row_answer result out.new) }
+    ensures given { GivesAny (DeviceDoes D.state D.does) config.now (from.0, from.1) out.old backing.old backing.new (row_answer result out.new) }
+{
+    match read_beneath(config, backing, from.0, from.1, out) {
+        Ok(()) => Ok(None),
+        Err(fault) => {
+            if can_heal(verity, fault) {
+                return Ok(Some(fault));
+            }
+            Err(fault)
+        }
+    }
 }
 
 /// The sectors of a leaf or a mapped device, of which there may be none. Chains of lines beneath are dropped.
@@ -470,7 +502,7 @@ fn heal<D: BlockDev>(
 }
 
 /// Settles a data block that was read together with others: one that is ignored is replaced by zeros, one of another digest by its
-/// spare, which is counted.
+/// spare, which is counted. If they couldn't be read, it is read alone.
 #[cycle(read)]
 fn settle_block<D: BlockDev>(
     config: &Config,
@@ -488,6 +520,20 @@ fn settle_block<D: BlockDev>(
     ensures touches { Asks D.state config.now (leaves_of config.now (mapped tree.now.device.0)) backing.old backing.new result }
 {
     let lost = &one.lost;
+    if one.alone {
+        let wanted = WantedData {
+            block: lost.index,
+            digest: lost.digest,
+            part: false,
+        };
+        return match read_data(config, backing, verity, tree, &wanted) {
+            Err(gone) => Err(gone),
+            Ok(content) => {
+                block.copy_from_slice(content.as_slice());
+                Ok(())
+            }
+        };
+    }
     if settle(one.ignored, &one.made, &lost.digest, block) {
         return Ok(());
     }

@@ -1,13 +1,15 @@
 //! Data blocks that are read together, and how each is judged.
-ghost use Rattle.std.specs.Prelude.{◌≡◌, ◌⊎◌, true, false, ◌<◌, ◌≤◌, ◌+◌, ◌-◌, max, length, replicate, IsTrue};
+ghost use Rattle.std.specs.Prelude.{◌≡◌, ◌⊎◌, true, false, ◌<◌, ◌≤◌, ◌+◌, ◌-◌, max, length, nat_lt, replicate, IsTrue};
 ghost use Rattle.stack_lines.specs.Walks.{IsTreeOf};
 ghost use Rattle.stack_engine.specs.SectorCalls.{AreReadTogether, last_bytes, place_in};
+ghost use Rattle.stack_engine.specs.Healing.{alone_after};
 
 use crate::path::PathBlock;
 use crate::spare::LostBlock;
 use dm_table::Verity;
 use stack_config::Config;
 use stack_lines::tree::{Tree, is_ignored};
+use stack_meaning::IoFault;
 use tree_shape::{Digest, digest_in};
 
 /// The next of `count` data blocks, the way to which was walked: its number in the line, its place among them, how many
@@ -21,18 +23,19 @@ pub(crate) struct NextBlock {
     pub(crate) ignored: bool,
 }
 
-/// A data block that was read together with others, with the digest that is expected of it: whether the line ignores it, and the
-/// digest that was made of its bytes.
+/// A data block that was read together with others, with the digest that is expected of it: whether the line ignores it, whether they
+/// couldn't be read, so it is read alone, and else the digest that was made of its bytes.
 #[derive(Clone, Copy)]
 pub(crate) struct JudgedBlock {
     pub(crate) lost: LostBlock,
     pub(crate) ignored: bool,
+    pub(crate) alone: bool,
     pub(crate) made: Digest,
 }
 
-/// The next data block, after those two digests are known.
-pub(crate) fn judge(next: NextBlock, expected: &Digest, made: &Digest) -> JudgedBlock
-    ensures { result ≡ record { lost = record { index = next.block; digest = expected.now }; ignored = next.ignored; made = made.now } }
+/// The next data block, after those two digests are known; so many blocks are read alone.
+pub(crate) fn judge(next: NextBlock, expected: &Digest, made: &Digest, alone: usize) -> JudgedBlock
+    ensures { result ≡ record { lost = record { index = next.block; digest = expected.now }; ignored = next.ignored; alone = nat_lt next.at alone; made = made.now } }
 {
     JudgedBlock {
         lost: LostBlock {
@@ -40,6 +43,7 @@ pub(crate) fn judge(next: NextBlock, expected: &Digest, made: &Digest) -> Judged
             digest: *expected,
         },
         ignored: next.ignored,
+        alone: next.at < alone,
         made: *made,
     }
 }
@@ -119,6 +123,16 @@ pub(crate) fn read_as_far(next: NextBlock, many: usize) -> usize
         return next.read;
     }
     end
+}
+
+/// How many of the blocks are scanned by reads of each alone, after the read of a row ended in that fault, or in none.
+pub(crate) fn alone_as_far(lost: Option<IoFault>, read: usize, alone: usize) -> usize
+    ensures { result ≡ alone_after lost read alone }
+{
+    match lost {
+        Some(_) => read,
+        None => alone,
+    }
 }
 
 /// Whether a data block may be answered: one that is ignored is replaced by zeros, and another one must have the digest.

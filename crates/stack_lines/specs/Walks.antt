@@ -1,15 +1,17 @@
 -- Contracts of reads of data blocks, from the root down.
-use Rattle.std.specs.Prelude.{◌≡◌, ◌⊎◌, ℕ, zero, suc, ◌+◌, ◌*◌, ◌<◌, Bool, false, ◌||◌, List, [], ◌∷◌, ◌++◌, length, Some, Result}
+use Rattle.std.specs.Prelude.{◌≡◌, ◌⊎◌, ℕ, zero, suc, ◌+◌, ◌*◌, ◌<◌, Bool, false, ◌||◌, List, [], ◌∷◌, ◌++◌, length, Option, None, Some, Result}
 use Rattle.std.specs.Option.{option_map_or}
 use Rattle.hash_tree.specs.Chain.{ChainRecord, HangsFrom, IsGood}
 use Rattle.tree_shape.specs.Digests.{digest}
 use Rattle.tree_shape.specs.Shape.{ancestor, levels}
 use Rattle.block_device.specs.Device.{Device}
 use Rattle.dm_table.specs.declared.table.Target.TheVariants.{Verity as verity_target}
+use Rattle.dm_table.specs.declared.parity.Parity.{Parity}
 use Rattle.dm_table.specs.declared.verity.Verity.{Verity}
 use Rattle.stack_rules.specs.Records.{Configuration}
 use Rattle.stack_rules.specs.Names.{named}
 use Rattle.stack_rules.specs.Descend.{by_name, read_cost}
+use Rattle.stack_rules.specs.TargetRules.{greatest}
 use Rattle.stack_rules.specs.Trees.{tree_of, block_sectors, path_blocks, path_sectors}
 use Rattle.stack_rules.specs.targets.Verity.{mend_cost}
 use Rattle.stack_meaning.specs.declared.fault.IoFault.{IoFault}
@@ -124,9 +126,17 @@ pub record AgreesAt (b : DataBlock) (images : Images) : Type 0 where
   pub on_parity : b.on_parity.agrees images
   pub line : LineAgrees b.verity (sources_of b images)
 
--- the most leaf sectors that are read for a spare: 0 without parity
+-- the most leaf sectors that are read for a spare, from what is read for a sector of each device: 0 without parity
+abbrev pub spare_cost_by : Verity → Option Parity → List ℕ → ℕ
+spare_cost_by v None costs = 0
+spare_cost_by v (Some parity) costs = 254 * block_sectors v * greatest costs
+
 abbrev pub spare_cost : DataBlock → ℕ
-spare_cost b = mend_cost b.verity b.verity.parity (b.on_data.cost ∷ b.on_hash.cost ∷ b.on_parity.cost ∷ [])
+spare_cost b = spare_cost_by b.verity b.verity.parity (b.on_data.cost ∷ b.on_hash.cost ∷ b.on_parity.cost ∷ [])
+
+-- and for the block itself, if it is read once more
+abbrev pub settled_cost : DataBlock → ℕ
+settled_cost b = mend_cost b.verity b.verity.parity (b.on_data.cost ∷ b.on_hash.cost ∷ b.on_parity.cost ∷ [])
 
 -- what it means over the leaves' images, where l levels are left and that digest is expected
 abbrev pub means_below : DataBlock → Images → ℕ → List ℕ → Outcome
@@ -183,7 +193,7 @@ chain_expected b = record {
   faults = BlockMeets b.verity (λ s. (b.on_data.said s).meets) (λ s. (b.on_hash.said s).meets) b.index;
   bytes_of = λ chain. chain.content;
   means = λ images. verified_block b.verity (sources_of b images) b.index;
-  cost = block_sectors b.verity * b.on_data.cost + path_sectors b.verity * b.on_hash.cost + path_blocks b.verity * spare_cost b;
+  cost = block_sectors b.verity * b.on_data.cost + path_sectors b.verity * b.on_hash.cost + path_blocks b.verity * settled_cost b;
   leaves = block_leaves b;
   agrees = AgreesAt b;
 }

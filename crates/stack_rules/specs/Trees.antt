@@ -44,9 +44,9 @@ covered_sectors verity parity = (verity.start + (parity.blocks - verity.blocks))
 abbrev pub parity_sectors : Verity → Parity → ℕ
 parity_sectors verity parity = (parity.start + round_count parity * parity.roots) * block_sectors verity
 
--- the most sectors read to restore a block: the other blocks of its round and their parity
+-- the most sectors read to restore a block: the block itself once more, the other blocks of its round, and their parity
 abbrev pub mend_sectors : Verity → ℕ
-mend_sectors verity = 254 * block_sectors verity
+mend_sectors verity = 255 * block_sectors verity
 
 -- the arguments of a `verity` line
 abbrev pub verity_of : Target → Option Verity

@@ -35,11 +35,11 @@ pub fn parity_sectors(verity: &Verity, parity: &Parity) -> u128
     end * u128::from(block_sectors(verity))
 }
 
-/// Returns the largest number of sectors read to restore a block: those of 254 blocks.
+/// Returns the largest number of sectors read to restore a block: those of 255 blocks.
 pub fn mend_sectors(verity: &Verity) -> u32
     ensures { result ≡ mend_sectors verity.now }
 {
-    254 * (verity.data_block / 512)
+    255 * (verity.data_block / 512)
 }
 
 /// Returns whether the line has parity that doesn't cover all data and hash blocks, or parity and blocks of two sizes.

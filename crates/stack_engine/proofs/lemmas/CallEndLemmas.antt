@@ -8,9 +8,9 @@ use Rattle.stack_meaning.specs.declared.fault.IoFault.{IoFault}
 use Rattle.stack_meaning.specs.declared.fault.IoFault.TheVariants as io
 use Rattle.stack_meaning.specs.Outcomes.{mismatch}
 use Rattle.stack_rules.specs.Trees.{zero_block}
-use Rattle.stack_engine.specs.Healing.{HasNoParity, IsHealed, healed_result, unhealed}
+use Rattle.stack_engine.specs.Healing.{HasNoParity, IsHealed, unhealed}
 use Rattle.stack_engine.specs.LeafCalls.{LeafCall, AllLeafCallsSucceeded, NoneAfterFailure, EndAtFailure}
-use Rattle.stack_engine.specs.SectorCalls.{bytes_before, ReadOf, ReadCalls, WriteTo, WriteCalls, leaf_read, leaf_unread, none_read, line_read, line_unread, units_read, units_unread, part_read, part_unread, zeros_read, fails_read, chain_found, data_read, data_unread, data_full, blocks_read, block_checked, block_differs, block_unread, block_full, hash_kept, hash_full, hash_read, way_had, way_healed, way_lost, way_down, way_stops, way_full, one_ignored, one_read, next_ignored, next_checked, next_healed, next_differs, together_read, together_unread, blocks_end, blocks_next, blocks_full, leaf_written, leaf_unwritten, none_written, line_written, line_unwritten, units_written, each_written, part_written, part_lost, none_stepped, step_written, step_unwritten, zeros_written, fails_written, one_healed, one_kept, one_fetched, spare_none, spare_full, spare_checked, spare_differs, spare_unread, sums_past, sums_added, sums_unread, parity_added, parity_unread}
+use Rattle.stack_engine.specs.SectorCalls.{bytes_before, ReadOf, ReadCalls, WriteTo, WriteCalls, leaf_read, leaf_unread, none_read, line_read, line_unread, units_read, units_unread, part_read, part_unread, zeros_read, fails_read, chain_found, data_read, data_unread, data_full, blocks_read, block_checked, block_differs, block_unread, block_full, hash_kept, hash_full, hash_read, way_had, way_healed, way_lost, way_down, way_stops, way_full, one_ignored, one_read, next_ignored, next_checked, next_healed, next_differs, next_alone, next_unread, together_read, together_lost, together_unread, blocks_end, blocks_next, blocks_full, leaf_written, leaf_unwritten, none_written, line_written, line_unwritten, units_written, each_written, part_written, part_lost, none_stepped, step_written, step_unwritten, zeros_written, fails_written, one_healed, one_kept, one_fetched, spare_none, spare_full, spare_checked, spare_differs, spare_unread, sums_past, sums_added, sums_unread, parity_added, parity_unread}
 use Rattle.stack_engine.proofs.lemmas.NoParityLemmas.{HasNone, served-none}
 
 all-append : (calls later : List LeafCall) → AllLeafCallsSucceeded calls → AllLeafCallsSucceeded later → AllLeafCallsSucceeded (calls ++ later)
@@ -66,10 +66,11 @@ ends-vain fault (io.Stack vain) calls h = h
 ends-vain fault (io.Device i) calls h = h
 ends-vain fault io.NoMemory calls h = h
 
-ends-healed : (parity : Option Parity) (fault : IoFault) → parity ≡ None → IsHealed parity fault → (spare : Result (List ℕ) IoFault) (calls later : List LeafCall) → EndsAs (Err fault) calls → EndsAs spare later → EndsAs (healed_result fault spare) (calls ++ later)
-ends-healed parity (io.Stack fault) none heals spare calls later h k = let both : false ≡ true = sym (ap is_some none) ∙ heals in absurd cc
-ends-healed parity (io.Device i) none heals spare calls later h k = let both : false ≡ true = sym (ap is_some none) ∙ heals in absurd cc
-ends-healed parity io.NoMemory none heals spare calls later h k = let both : false ≡ true = heals in absurd cc
+-- without parity no fault is healed
+none-heals : {X : Type 0} (parity : Option Parity) (fault : IoFault) → parity ≡ None → IsHealed parity fault → X
+none-heals parity (io.Stack fault) none heals = let both : false ≡ true = sym (ap is_some none) ∙ heals in absurd cc
+none-heals parity (io.Device i) none heals = let both : false ≡ true = sym (ap is_some none) ∙ heals in absurd cc
+none-heals parity io.NoMemory none heals = let both : false ≡ true = heals in absurd cc
 
 reads-end : {c : Configuration} {what : ReadOf} {calls : List LeafCall} {from to : ℕ} {answer : Result (List ℕ) IoFault} → HasNoParity c → ReadCalls c what calls from to answer → HasNone what → EndsAs answer calls
 reads-end none (leaf_read i s bytes) plain = (refl, tt)
@@ -96,25 +97,28 @@ reads-end none (hash_kept x bytes is) plain = tt
 reads-end none (hash_full x) plain = tt
 reads-end none (hash_read a) plain = reads-end none a tt
 reads-end none (way_had settled a) plain = reads-end none a tt
-reads-end none (way_healed {p = p} {calls = calls} {later = later} {fault = fault} {spare = spare} heals a b) plain = ends-healed p.verity.parity fault plain heals spare calls later (reads-end none a tt) (reads-end none b plain)
+reads-end none (way_healed {p = p} {fault = fault} heals a b) plain = none-heals p.verity.parity fault plain heals
 reads-end none (way_lost a) plain = reads-end none a plain
 reads-end none (way_down {calls = calls} {later = later} {answer = answer} a b) plain = ends-append answer calls later (reads-end none a plain) (reads-end none b plain)
 reads-end none (way_stops last next a) plain = reads-end none a plain
 reads-end none (way_full p l expected last next) plain = tt
 reads-end none (one_ignored p expected last is) plain = tt
 reads-end none (one_read last used settled a) plain = reads-end none a tt
-reads-end none (one_healed {p = p} last {calls = calls} {later = later} {fault = fault} {spare = spare} used heals a b) plain = ends-healed p.verity.parity fault plain heals spare calls later (reads-end none a tt) (reads-end none b plain)
+reads-end none (one_healed {p = p} last {fault = fault} used heals a b) plain = none-heals p.verity.parity fault plain heals
 reads-end none (one_kept p last bytes used is) plain = tt
 reads-end none (one_fetched a) plain = reads-end none a plain
 reads-end none (next_ignored {p = p} last {calls = calls} {answer = answer} is a) plain = ends-before (zero_block p.verity) answer [] calls tt (reads-end none a plain)
 reads-end none (next_checked block last {calls = calls} {answer = answer} used is a) plain = ends-before block answer [] calls tt (reads-end none a plain)
 reads-end none (next_healed {spare = spare} block last {calls = calls} {later = later} {answer = answer} used len other a b) plain = ends-before spare answer calls later (reads-end none a plain) (reads-end none b plain)
 reads-end none (next_differs {p = p} left block ahead last {calls = calls} {vain = vain} used len other a) plain = ends-vain mismatch vain calls (reads-end none a plain)
+reads-end none (next_alone {block = block} {calls = calls} {later = later} {answer = answer} a b) plain = ends-before block answer calls later (reads-end none a plain) (reads-end none b plain)
+reads-end none (next_unread left alone a) plain = reads-end none a plain
 reads-end none (together_read {calls = calls} {later = later} {answer = answer} used row a b) plain = ends-append answer calls later (reads-end none a tt) (reads-end none b plain)
-reads-end none (together_unread used row a) plain = reads-end none a tt
-reads-end none (blocks_end p ahead) plain = tt
+reads-end none (together_lost {p = p} {fault = fault} used row heals a b) plain = none-heals p.verity.parity fault plain heals
+reads-end none (together_unread used row settled a) plain = reads-end none a tt
+reads-end none (blocks_end p alone ahead) plain = tt
 reads-end none (blocks_next a) plain = reads-end none a plain
-reads-end none (blocks_full p left ahead) plain = tt
+reads-end none (blocks_full p left alone ahead) plain = tt
 reads-end none (spare_none p expected lacks) plain = tt
 reads-end none (spare_full p expected) plain = tt
 reads-end none (spare_checked has a good) plain = clash plain has

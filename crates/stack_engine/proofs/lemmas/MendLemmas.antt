@@ -7,7 +7,6 @@ use Rattle.block_device.specs.Device.{Device}
 use Rattle.tree_shape.specs.Digests.{digest}
 use Rattle.dm_table.specs.declared.parity.Parity.{Parity}
 use Rattle.stack_rules.specs.Trees.{block_sectors, round_count, zero_block}
-use Rattle.stack_rules.specs.targets.Verity.{mend_cost}
 use Rattle.stack_meaning.specs.declared.fault.Fault.{Fault}
 use Rattle.stack_meaning.specs.declared.fault.IoFault.{IoFault}
 use Rattle.stack_meaning.specs.declared.fault.IoFault.TheVariants as io
@@ -20,7 +19,7 @@ use Rattle.stack_meaning.proofs.lemmas.CheckedLemmas.{checked-same}
 use Rattle.stack_engine.proofs.HealLemmas.{checked-other}
 use Rattle.stack_meaning.proofs.lemmas.LeafListLemmas.{AreRead-none, AreRead-then, AreRead-more, images-kept}
 use Rattle.stack_meaning.proofs.lemmas.RunLemmas.{certain-for, fault_passes}
-use Rattle.stack_lines.specs.Walks.{DataBlock, sources_of, spare_cost, spare_expected}
+use Rattle.stack_lines.specs.Walks.{DataBlock, sources_of, spare_cost, spare_cost_by, spare_expected}
 use Rattle.stack_engine.specs.Spares.{other_wanted, sector_cost, stored_wanted}
 
 -- ---- sums
@@ -71,7 +70,7 @@ module _ (b : DataBlock) (q : Parity) (has : b.verity.parity ≡ Some q) (some :
   unit-cost : (k : ℕ) → k ≤ 254 → k * unit ≤ spare_cost b
   unit-cost k most =
       let all : k * unit ≤ 254 * unit = mul-le-mul_right unit most in
-      let is : spare_cost b ≡ 254 * block_sectors b.verity * sector_cost b = ap (λ (o : Option Parity). mend_cost b.verity o (b.on_data.cost ∷ b.on_hash.cost ∷ b.on_parity.cost ∷ [])) has in
+      let is : spare_cost b ≡ 254 * block_sectors b.verity * sector_cost b = ap (λ (o : Option Parity). spare_cost_by b.verity o (b.on_data.cost ∷ b.on_hash.cost ∷ b.on_parity.cost ∷ [])) has in
       omega (arith, all, is, mul_assoc 254 (block_sectors b.verity) (sector_cost b))
 
   stored-units : block_sectors b.verity * q.roots * sector_cost b ≡ q.roots * unit

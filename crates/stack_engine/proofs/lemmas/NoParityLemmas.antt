@@ -25,7 +25,7 @@ HasNone (block_of x) = Unit {0}
 HasNone (hash_of x) = Unit {0}
 HasNone (way_of p l expected) = p.verity.parity ≡ None
 HasNone (data_of p l expected last next) = p.verity.parity ≡ None
-HasNone (blocks_of p left ahead) = p.verity.parity ≡ None
+HasNone (blocks_of p left alone ahead) = p.verity.parity ≡ None
 HasNone (spare_of p expected) = p.verity.parity ≡ None
 HasNone (sums_of p q i sums) = ⊥
 

@@ -5,7 +5,7 @@ use Rattle.stack_rules.specs.Records.{Configuration}
 use Rattle.stack_meaning.specs.declared.fault.IoFault.{IoFault}
 use Rattle.stack_engine.specs.LeafCalls.{LeafCall}
 use Rattle.stack_engine.specs.Restored.{one_more, restored_after}
-use Rattle.stack_engine.specs.SectorCalls.{ReadOf, ReadCalls, leaf_read, leaf_unread, none_read, line_read, line_unread, units_read, units_unread, part_read, part_unread, zeros_read, fails_read, chain_found, data_read, data_unread, data_full, blocks_read, block_checked, block_differs, block_unread, block_full, hash_kept, hash_full, hash_read, way_had, way_healed, way_lost, way_down, way_stops, way_full, one_ignored, one_read, one_healed, one_kept, one_fetched, next_ignored, next_checked, next_healed, next_differs, together_read, together_unread, blocks_end, blocks_next, blocks_full, spare_none, spare_full, spare_checked, spare_differs, spare_unread, sums_past, sums_added, sums_unread, parity_added, parity_unread}
+use Rattle.stack_engine.specs.SectorCalls.{ReadOf, ReadCalls, leaf_read, leaf_unread, none_read, line_read, line_unread, units_read, units_unread, part_read, part_unread, zeros_read, fails_read, chain_found, data_read, data_unread, data_full, blocks_read, block_checked, block_differs, block_unread, block_full, hash_kept, hash_full, hash_read, way_had, way_healed, way_lost, way_down, way_stops, way_full, one_ignored, one_read, one_healed, one_kept, one_fetched, next_ignored, next_checked, next_healed, next_differs, next_alone, next_unread, together_read, together_lost, together_unread, blocks_end, blocks_next, blocks_full, spare_none, spare_full, spare_checked, spare_differs, spare_unread, sums_past, sums_added, sums_unread, parity_added, parity_unread}
 
 -- it doesn't fall
 one-grows : (n : ℕ) → n ≤ one_more n
@@ -59,11 +59,14 @@ reads-grow (next_ignored last is a) = reads-grow a
 reads-grow (next_checked block last used is a) = reads-grow a
 reads-grow (next_healed {mid = mid} block last used len other a b) = omega (arith, reads-grow a, reads-grow b, one-grows mid)
 reads-grow (next_differs left block ahead last used len other a) = reads-grow a
+reads-grow (next_alone a b) = omega (arith, reads-grow a, reads-grow b)
+reads-grow (next_unread left alone a) = reads-grow a
 reads-grow (together_read used row a b) = omega (arith, reads-grow a, reads-grow b)
-reads-grow (together_unread used row a) = reads-grow a
-reads-grow (blocks_end p ahead) = omega arith
+reads-grow (together_lost used row heals a b) = omega (arith, reads-grow a, reads-grow b)
+reads-grow (together_unread used row settled a) = reads-grow a
+reads-grow (blocks_end p alone ahead) = omega arith
 reads-grow (blocks_next a) = reads-grow a
-reads-grow (blocks_full p left ahead) = omega arith
+reads-grow (blocks_full p left alone ahead) = omega arith
 reads-grow (spare_none p expected none) = omega arith
 reads-grow (spare_full p expected) = omega arith
 reads-grow (spare_checked has a good) = reads-grow a

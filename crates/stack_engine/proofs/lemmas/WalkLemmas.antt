@@ -1,14 +1,18 @@
 -- The walk to a data block of a verity line.
-use Rattle.std.proofs.Common.{◌≡◌, ℕ, suc, ◌+◌, ◌*◌, ◌<◌, ◌≤◌, Bool, IsTrue, ◌||◌, true, false, List, [], ◌∷◌, ◌++◌, length, Result, Ok, Err, refl, sym, ap, ◌∙◌, subst, arith, inl, inr}
+use Rattle.std.proofs.Common.{◌≡◌, ℕ, suc, ◌+◌, ◌*◌, ◌<◌, ◌≤◌, Bool, IsTrue, ◌||◌, true, false, List, [], ◌∷◌, ◌++◌, length, Option, None, Some, Result, Ok, Err, refl, sym, ap, ◌∙◌, subst, arith, inl, inr, lit≤}
+use Rattle.std.specs.Prelude.{is_some}
 use Rattle.std.proofs.lemmas.Bool.{and_parts, cond-true, cond-false}
 use Rattle.std.proofs.lemmas.Slice.Eq.{bytes_eq-Decides}
 use Rattle.std.proofs.lemmas.List.{append_assoc, append-nil, length-append, length-replicate}
-use Rattle.std.proofs.Math.Nat.{add-mul, mul-add, mul-le-mul_right, mul_assoc}
+use Rattle.std.proofs.Math.Nat.{add-mul, le-max_left, mul-add, mul-le-mul_left, mul-le-mul_right, mul_assoc}
 use Rattle.hash_tree.specs.Chain.{HangsFrom}
 use Rattle.tree_shape.specs.Digests.{digest}
 use Rattle.tree_shape.specs.Shape.{ancestor, levels}
 use Rattle.block_device.specs.Device.{Device}
+use Rattle.dm_table.specs.declared.parity.Parity.{Parity}
 use Rattle.dm_table.specs.declared.verity.Verity.{Verity}
+use Rattle.stack_rules.specs.TargetRules.{greatest}
+use Rattle.stack_rules.specs.targets.Verity.{mend_cost}
 use Rattle.stack_rules.specs.Trees.{tree_of, block_sectors, zero_block}
 use Rattle.stack_meaning.specs.declared.fault.Fault.{Fault}
 use Rattle.stack_meaning.specs.declared.fault.IoFault.{IoFault}
@@ -21,7 +25,7 @@ use Rattle.stack_meaning.specs.Places.{Place, Expected, run_expected}
 use Rattle.stack_meaning.specs.Reading.{Answers, Gets, IsCertain}
 use Rattle.stack_engine.specs.Healing.{IsHealed, IsSettled, healed_result}
 use Rattle.stack_engine.proofs.HealLemmas.{checked-other}
-use Rattle.stack_lines.specs.Walks.{at_number, checked_expected, DataBlock, block_leaves, healed_expected, means_below, data_expected, chain_expected, sources_of, spare_cost, spare_expected, way_cost, way_expected, GetsChain, IsWalked}
+use Rattle.stack_lines.specs.Walks.{at_number, checked_expected, DataBlock, block_leaves, healed_expected, means_below, data_expected, chain_expected, sources_of, settled_cost, spare_cost, spare_cost_by, spare_expected, way_cost, way_expected, GetsChain, IsWalked}
 use Rattle.stack_meaning.proofs.lemmas.CoveredLemmas.{covered-data}
 use Rattle.stack_meaning.proofs.lemmas.CheckedLemmas.{checked-same}
 use Rattle.stack_meaning.proofs.lemmas.LeafListLemmas.{AreRead-none, AreRead-then, AreRead-more, images-kept}
@@ -140,17 +144,41 @@ module _ {A : Type 0} (bytes_of : A → List ℕ) (b : DataBlock) (expected : Li
 
 -- ---- the walk
 
+-- a spare of a line, by what is read for a sector of each device
+spare-below : (v : Verity) (o : Option Parity) (costs : List ℕ) → spare_cost_by v o costs ≤ mend_cost v o costs
+spare-below v None costs = omega arith
+spare-below v (Some q) costs =
+    let few : 254 * block_sectors v ≤ 255 * block_sectors v = mul-le-mul_right (block_sectors v) (lit≤ tt) in
+    mul-le-mul_right (greatest costs) few
+
+alone-below : (v : Verity) (o : Option Parity) (own : ℕ) (rest : List ℕ) → IsTrue (is_some o) → block_sectors v * own + spare_cost_by v o (own ∷ rest) ≤ mend_cost v o (own ∷ rest)
+alone-below v None own rest some = let clash : false ≡ true = some in absurd cc
+alone-below v (Some q) own rest some =
+    let g : ℕ = greatest (own ∷ rest) in
+    let one : block_sectors v * own ≤ block_sectors v * g = mul-le-mul_left (block_sectors v) (le-max_left own (greatest rest)) in
+    let split : (254 * block_sectors v + block_sectors v) * g ≡ 254 * block_sectors v * g + block_sectors v * g = add-mul (254 * block_sectors v) (block_sectors v) g in
+    let all : 254 * block_sectors v + block_sectors v ≡ 255 * block_sectors v = omega arith in
+    omega (arith, one, split, ap (λ (k : ℕ). k * g) all)
+
 -- the cost of some hash blocks on the way, of a data block, and of as many spares
 module _ (b : DataBlock) where
   abbrev all_levels : ℕ
   all_levels = levels (tree_of b.verity)
 
-  pub chain-spent : all_levels * way_cost b + (block_sectors b.verity * b.on_data.cost + spare_cost b) ≡ (chain_expected b).cost
+  -- a spare costs less than to settle a block, by at least the block itself if there is parity
+  pub spare-low : spare_cost b ≤ settled_cost b
+  spare-low = spare-below b.verity b.verity.parity (b.on_data.cost ∷ b.on_hash.cost ∷ b.on_parity.cost ∷ [])
+
+  pub alone-low : IsTrue (is_some b.verity.parity) → block_sectors b.verity * b.on_data.cost + spare_cost b ≤ settled_cost b
+  alone-low some = alone-below b.verity b.verity.parity b.on_data.cost (b.on_hash.cost ∷ b.on_parity.cost ∷ []) some
+
+  pub chain-spent : all_levels * way_cost b + (block_sectors b.verity * b.on_data.cost + settled_cost b) ≤ (chain_expected b).cost
   chain-spent =
+      let settled : (all_levels + 1) * settled_cost b ≡ all_levels * settled_cost b + 1 * settled_cost b = add-mul all_levels 1 (settled_cost b) in
+      let each : all_levels * spare_cost b ≤ all_levels * settled_cost b = mul-le-mul_left all_levels spare-low in
       let hashes : all_levels * hash_sectors b.verity * b.on_hash.cost ≡ all_levels * (hash_sectors b.verity * b.on_hash.cost) = mul_assoc all_levels (hash_sectors b.verity) b.on_hash.cost in
       let apart : all_levels * way_cost b ≡ all_levels * (hash_sectors b.verity * b.on_hash.cost) + all_levels * spare_cost b = mul-add all_levels (hash_sectors b.verity * b.on_hash.cost) (spare_cost b) in
-      let spares : (all_levels + 1) * spare_cost b ≡ all_levels * spare_cost b + 1 * spare_cost b = add-mul all_levels 1 (spare_cost b) in
-      omega (arith, hashes, apart, spares)
+      omega (arith, hashes, apart, settled, each)
 
   levels_cost : (m n : ℕ) → m + n ≤ all_levels → m * way_cost b + n * way_cost b ≤ all_levels * way_cost b
   levels_cost m n h =
@@ -182,7 +210,7 @@ means-end bytes_of b {expected = expected} {old = old} {mid = mid} p sure x is =
 
 path_cost : (b : DataBlock) {expected : List ℕ} {path : List (List ℕ)} {old mid : List Device} → IsWalked b 0 expected path old mid
     → length path * way_cost b + (block_sectors b.verity * b.on_data.cost + spare_cost b) ≤ (chain_expected b).cost
-path_cost b {path = path} p = omega (arith, levels_cost b (length path) 0 (omega (arith, p.count)), chain-spent b)
+path_cost b {path = path} p = omega (arith, levels_cost b (length path) 0 (omega (arith, p.count)), chain-spent b, spare-low b)
 
 module _ {A : Type 0} (bytes_of : A → List ℕ) (b : DataBlock) (l : ℕ) {expected : List ℕ} {path : List (List ℕ)} {old mid new : List Device} (whole : 512 * hash_sectors b.verity ≡ b.verity.hash_block) (p : IsWalked b (suc l) expected path old mid) where
   -- a step down

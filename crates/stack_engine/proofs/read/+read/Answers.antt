@@ -1,20 +1,20 @@
-use Rattle.std.proofs.Common.{All, ◌≡◌, ◌<◌, ◌≤◌, ◌+◌, ◌/◌, ◌*◌, ◌-◌, ◌%◌, length, take, drop, map, replicate, get_or, eqb, true, false, ℕ, suc, List, [], ◌∷◌, ◌++◌, Vec, Global, Option, Some, None, Result, Ok, Err, inl, inr, refl, sym, ap, ◌∙◌, subst, arith}
+use Rattle.std.proofs.Common.{All, ◌≡◌, ◌<◌, ◌≤◌, ◌+◌, ◌/◌, ◌*◌, ◌-◌, ◌%◌, length, take, drop, map, max, replicate, get_or, eqb, true, false, ℕ, suc, List, [], ◌∷◌, ◌++◌, Vec, Global, Option, Some, None, Result, Ok, Err, inl, inr, refl, sym, ap, ◌∙◌, subst, arith}
 use Rattle.std.proofs.lemmas.List.{length-map, length-take, length-take-le, length-drop, length-append, map-append, take_all}
 use Rattle.std.proofs.Math.Seq.{get_or-append_seam, take-append_seam}
 use Rattle.std.proofs.lemmas.Slice.Eq.{bytes_eq-Decides}
-use Rattle.std.proofs.lemmas.Bool.{eqb-true}
+use Rattle.std.proofs.lemmas.Bool.{cases_lt, eqb-true}
 use Rattle.std.proofs.lemmas.Slice.{take-put_mid}
 use Rattle.std.proofs.lemmas.List.{with_items_is}
-use Rattle.std.specs.Prelude.{option_map, is_ok, IfSome}
+use Rattle.std.specs.Prelude.{option_map, is_ok, nat_lt, IfSome}
 use Rattle.block_device.specs.Call.{DeviceDoes, Read}
 use Rattle.stack_engine.specs.LeafCalls.{IsLeafCall}
 use Rattle.stack_engine.specs.SectorCalls.{Gives, zeros_read, fails_read}
 use Rattle.stack_engine.proofs.ReadCallLemmas.{reads-none}
 use Rattle.stack_engine.specs.SectorCalls.{LeadsTo, ReadsBy, place_at, block_full, block_of, data_of, expected_hash, hash_full, hash_kept, hash_of, last_bytes, one_asked, one_block, one_ignored, place_in, spare_of, way_had, way_of, way_full, whole_data}
-use Rattle.stack_engine.specs.Healing.{healed_result}
+use Rattle.stack_engine.specs.Healing.{alone_after, healed_result}
 use Rattle.stack_engine.specs.ReadSteps.{IsKeptData, block_answer, expected_in}
 use Rattle.stack_engine.proofs.WayCallLemmas.{block-ungiven, one-asked, one-kept, chain-given, checked-given, data-given, data-short, data-ungiven, differs-given, hash-given, last-push, leads-begin, one-given, one-healed, place-same, place-turn, reads-expected, way-ended, way-had, way-healed, way-led, way-short, way-ungiven, way-unled}
-use Rattle.stack_engine.proofs.BlockCallLemmas.{BlocksUpTo, blocks-begin, blocks-given, blocks-short, blocks-unled, blocks-way, gives-at, path-last, row-asked, row-begins, row-given, row-some, row-stays, row-ungiven, together-at}
+use Rattle.stack_engine.proofs.BlockCallLemmas.{BlocksUpTo, blocks-begin, blocks-given, blocks-short, blocks-unled, blocks-way, gives-at, path-last, row-asked, row-begins, row-after, row-some, row-stays, row-ungiven, together-at, way-plain}
 use Rattle.stack_engine.proofs.SectorCallLemmas.{leaf-given, gives-begin, run-given, run-ungiven, all-given, units-given, units-ungiven, part-given, part-ungiven}
 use Rattle.std.specs.Vec.{with_items}
 use borrow.Rule.Slice.PartMut.{put_mid, same_len_mid}
@@ -64,8 +64,8 @@ use Rattle.stack_engine.proofs.PathLemmas.{held-small, path-read, path-hit, path
 use Rattle.stack_engine.proofs.LostBlockLemmas.{data-verified}
 use Rattle.stack_engine.proofs.BlocksAtLemmas.{blocks-at}
 use Rattle.stack_engine.proofs.BlocksLemmas.{blocks-meet}
-use Rattle.stack_engine.proofs.NextBlockLemmas.{sub-same, digest-count, blocks-long, way-whole, block-begin, far, row-next, row-fails, row-ahead, checked-none, turn-at, way-fails, way-costs, row-at, row-got, row-costs, put-at, row-covers, checked-as, checked-all}
-use Rattle.stack_engine.proofs.NextSettledLemmas.{digest-made, block-costs, block-full, block-checked, rest-ahead, stood-len}
+use Rattle.stack_engine.proofs.NextBlockLemmas.{sub-same, digest-count, blocks-long, way-whole, block-begin, far, row-next, row-fails, row-kept, next-kept, together-from, lone-from, heals-after, checked-none, turn-at, way-fails, way-costs, row-at, row-got, row-costs, put-at, row-covers, checked-as, checked-all}
+use Rattle.stack_engine.proofs.NextSettledLemmas.{digest-made, block-costs, block-full, block-checked, rest-ahead, stood-len, written}
 use Rattle.stack_engine.proofs.SettledLemmas.{settled-given, settled-got, settled-moved, settled-on, settles-at, unsettled, unsettled-given}
 use Rattle.stack_engine.specs.declared.path.Chains.TheVariants.{Kept}
 use Rattle.stack_engine.specs.Keeping.{with_chains, AreHandedOut, ReadsAs, ReadsSourceAs, one_found}
@@ -93,7 +93,7 @@ use Rattle.stack_engine.specs.SectorCalls.{DataPlace, other_at, other_by, sums_o
 use Rattle.stack_engine.specs.Spares.{HealsBy, IsStoredAt, other_wanted, stored_wanted}
 use Rattle.stack_engine.specs.declared.rows.JudgedBlock.{JudgedBlock}
 use Rattle.stack_engine.specs.declared.spare.Stored.{Stored}
-use Rattle.stack_engine.proofs.HealLemmas.{asks-healed, asks-unhealed, asks-vain, heals-failed, heals-had, heals-short}
+use Rattle.stack_engine.proofs.HealLemmas.{asks-healed, asks-lost, lost-fails, lost-heals, asks-unhealed, asks-vain, heals-failed, heals-had, heals-short}
 use Rattle.stack_engine.proofs.MendCallLemmas.{leads-then, other-added, other-lost, other-past, spare-given, spare-lost, spare-other, spare-past, stored-given, stored-lost}
 use Rattle.stack_engine.proofs.lemmas.MendLemmas.{IsSummed, spare-differs, spare-ends, spare-none, stored-fails, summed-fails, summed-more, summed-none}
 use Rattle.stack_engine.proofs.lemmas.RoundLemmas.{is-round, mend-inside, other-given, other-none, other-of, other-read, other-unread, parity-of, stored-count, stored-read, stored-unread}
@@ -898,8 +898,8 @@ pub read_blocks-overflow_mul-from : goal.read_blocks-overflow_mul-from
 read_blocks-overflow_mul-from g t c =
     let turn = turn-at (blocks-at c.requires) c.checks.invariant.checked c.requires.fits.sectors.whole c.from.ensures c.checks-test.true in omega (arith, turn.end)
 
-pub read_blocks-read_beneath-requires : goal.read_blocks-read_beneath-requires
-read_blocks-read_beneath-requires g t c κs within =
+pub read_blocks-read_row-requires : goal.read_blocks-read_row-requires
+read_blocks-read_row-requires g t c κs within =
     let config = c.args.config.now in
     let inv = c.checks.invariant in
     let tree = c.tree_of-tree in
@@ -914,14 +914,14 @@ read_blocks-read_beneath-requires g t c κs within =
     let stack = stack-later config c.in-Ok.ensures.moved.moved.fixed before c.in-Ok.ensures.cached in
     (omega (arith, deep, depths), (within, (stack, (row.whole, omega (arith, row.inside, extent, row.sectors, ap (λ (y : Lower). size config y) tree.ensures.data)))))
 
-pub read_blocks-returns-in-Err-read_beneath-clause-reads : goal.read_blocks-returns-in-Err-read_beneath-clause-reads
-read_blocks-returns-in-Err-read_beneath-clause-reads g t c =
+pub read_blocks-returns-in-Err-read_row-clause-reads : goal.read_blocks-returns-in-Err-read_row-clause-reads
+read_blocks-returns-in-Err-read_row-clause-reads g t c =
     let inv = c.checks.invariant.checked in
     let b = blocks-at c.requires in
     let turn = turn-at b inv c.requires.fits.sectors.whole c.from.ensures c.checks-test.true in
     let row = row-at b turn c.row_len-many.result c.row_len-many.ensures.most in
-    let gets = row-got b turn row c.tree_of-tree.ensures.data c.data_extent-extent.ensures c.in-Err-read_beneath.ensures.reads in
-    finds-as c.args.chains (row-fails b turn row c.row_len-many.ensures.fresh c.in-Err-read_beneath.met inv.had c.in-Ok.ensures.moved c.in-Ok.ensures.ok gets) inv.out inv.had.distinct
+    let gets = row-got b turn row c.tree_of-tree.ensures.data c.data_extent-extent.ensures c.in-Err-read_row.ensures.reads in
+    finds-as c.args.chains (row-fails b turn row c.row_len-many.ensures.fresh c.in-Err-read_row.met inv.had c.in-Ok.ensures.moved c.in-Ok.ensures.ok gets) inv.out inv.had.distinct
 
 pub read_blocks-shape_of-out-in-Err : goal.read_blocks-shape_of-out-in-Err
 read_blocks-shape_of-out-in-Err g t c = c.checks.invariant.checked.size
@@ -937,14 +937,14 @@ read_blocks-slice_bounds-way-end g t c =
 pub read_blocks-shape_of-out : goal.read_blocks-shape_of-out
 read_blocks-shape_of-out g t c = c.checks.invariant.checked.size
 
-pub read_blocks-shape_of-out-in-Err-read_beneath : goal.read_blocks-shape_of-out-in-Err-read_beneath
-read_blocks-shape_of-out-in-Err-read_beneath g t c = same_len_mid _ _ _ _ c.read_beneath.auto.out ∙ c.checks.invariant.checked.size
+pub read_blocks-shape_of-out-in-Err-read_row : goal.read_blocks-shape_of-out-in-Err-read_row
+read_blocks-shape_of-out-in-Err-read_row g t c = same_len_mid _ _ _ _ c.read_row.auto.out ∙ c.checks.invariant.checked.size
 
 pub read_blocks-shape_of-out-in-Err-settle_block : goal.read_blocks-shape_of-out-in-Err-settle_block
-read_blocks-shape_of-out-in-Err-settle_block g t c = same_len_mid _ _ _ _ c.settle_block.auto.block ∙ same_len_mid _ _ _ _ c.read_beneath.auto.out ∙ c.checks.invariant.checked.size
+read_blocks-shape_of-out-in-Err-settle_block g t c = same_len_mid _ _ _ _ c.settle_block.auto.block ∙ same_len_mid _ _ _ _ c.read_row.auto.out ∙ c.checks.invariant.checked.size
 
 pub read_blocks-shape_of-out-in-Err-keep : goal.read_blocks-shape_of-out-in-Err-keep
-read_blocks-shape_of-out-in-Err-keep g t c = same_len_mid _ _ _ _ c.settle_block.auto.block ∙ same_len_mid _ _ _ _ c.read_beneath.auto.out ∙ c.checks.invariant.checked.size
+read_blocks-shape_of-out-in-Err-keep g t c = same_len_mid _ _ _ _ c.settle_block.auto.block ∙ same_len_mid _ _ _ _ c.read_row.auto.out ∙ c.checks.invariant.checked.size
 
 pub read_blocks-data_extent-extent-requires-clause-block : goal.read_blocks-data_extent-extent-requires-clause-block
 read_blocks-data_extent-extent-requires-clause-block g t c =
@@ -979,7 +979,7 @@ read_blocks-digest_blocks-requires-clause-whole g t c =
     let b = blocks-at c.requires in
     let turn = turn-at b c.checks.invariant.checked c.requires.fits.sectors.whole c.from.ensures c.checks-test.true in
     let row = row-at b turn c.row_len-many.result c.row_len-many.ensures.most in
-    let put = put-at b turn row c.read_beneath.new.out c.read_beneath.auto.out in
+    let put = put-at b turn row c.read_row.new.out c.read_row.auto.out in
     ap (λ (l : List ℕ). length l % c.args.part.verity.now.data_block) put.row_is ∙ put.row_even
 
 pub read_blocks-digest_blocks-requires-clause-count : goal.read_blocks-digest_blocks-requires-clause-count
@@ -990,7 +990,7 @@ read_blocks-digest_blocks-requires-clause-count g t c =
     let inv = c.checks.invariant.checked in
     let turn = turn-at b inv c.requires.fits.sectors.whole c.from.ensures c.checks-test.true in
     let row = row-at b turn many c.row_len-many.ensures.most in
-    let put = put-at b turn row c.read_beneath.new.out c.read_beneath.auto.out in
+    let put = put-at b turn row c.read_row.new.out c.read_row.auto.out in
     length-take-le (j + many - j) (drop j c.checks.made) (omega (arith, inv.room, row.few, length-drop j c.checks.made)) ∙ sub-same j many
     ∙ sym (ap (λ (l : List ℕ). length l / c.args.part.verity.now.data_block) put.row_is ∙ put.row_count)
 
@@ -1006,7 +1006,7 @@ read_blocks-slice_bounds-block-end g t c =
     let b = blocks-at c.requires in
     let turn = turn-at b c.checks.invariant.checked c.requires.fits.sectors.whole c.from.ensures c.checks-test.true in
     let row = row-at b turn c.row_len-many.result c.row_len-many.ensures.most in
-    let put = put-at b turn row c.read_beneath.new.out c.read_beneath.auto.out in
+    let put = put-at b turn row c.read_row.new.out c.read_row.auto.out in
     omega (arith, put.end)
 
 pub read_blocks-settle_block-requires : goal.read_blocks-settle_block-requires
@@ -1022,14 +1022,16 @@ read_blocks-settle_block-requires g t c κs within =
     let b = blocks-at c.requires in
     let turn = turn-at b inv c.requires.fits.sectors.whole c.from.ensures c.checks-test.true in
     let row = row-at b turn many.result many.ensures.most in
-    let put = put-at b turn row c.read_beneath.new.out c.read_beneath.auto.out in
-    let gets = row-got b turn row tree.ensures.data c.data_extent-extent.ensures c.in-Ok-read_beneath.ensures.reads in
+    let put = put-at b turn row c.read_row.new.out c.read_row.auto.out in
+    let gets = row-got b turn row tree.ensures.data c.data_extent-extent.ensures c.in-Ok-read_row.ensures.reads in
+    let lost = c.in-Ok-read_row.lost in
+    let heals = lost-heals v.parity lost c.in-Ok-read_row.ensures.lost in
     let next = row-next b turn row many.ensures.fresh inv.had c.in-Ok.ensures.moved c.in-Ok.ensures.ok gets in
     let far_to = far b turn row many.ensures.fresh inv.had c.in-Ok.ensures.moved c.in-Ok.ensures.ok gets in
     let depths : depth config (mapped tree.result.device.0) ≡ depth config (mapped p.device.0) = ap (λ (x : DevId). depth config (mapped x.0)) tree.ensures.device in
     let before = stack-later config inv.had.moved.moved.fixed c.requires.stack all.cached in
     let walked = stack-later config c.in-Ok.ensures.moved.moved.fixed before c.in-Ok.ensures.cached in
-    let stack = stack-later config gets.got.moved.moved.fixed walked c.in-Ok-read_beneath.ensures.cached in
+    let stack = stack-later config gets.got.moved.moved.fixed walked c.in-Ok-read_row.ensures.cached in
     let at : c.judge-judged.result.lost.index ≡ p.first / c.from.result + j = ap (λ (x : JudgedBlock). x.lost.index) c.judge-judged.ensures in
     (omega (arith, depths), (within, (stack, (record { lies = tree.ensures.tree; there = omega (arith, at, turn.there) }, stood-len b _ turn.inside far_to next put.len put.end ∙ sub-same (j * v.data_block) v.data_block))))
 
@@ -1046,16 +1048,23 @@ read_blocks-returns-in-Err-settle_block-clause-reads g t c =
     let b = blocks-at c.requires in
     let turn = turn-at b inv c.requires.fits.sectors.whole c.from.ensures c.checks-test.true in
     let row = row-at b turn many.result many.ensures.most in
-    let put = put-at b turn row c.read_beneath.new.out c.read_beneath.auto.out in
-    let gets = row-got b turn row tree.ensures.data c.data_extent-extent.ensures c.in-Ok-read_beneath.ensures.reads in
+    let put = put-at b turn row c.read_row.new.out c.read_row.auto.out in
+    let gets = row-got b turn row tree.ensures.data c.data_extent-extent.ensures c.in-Ok-read_row.ensures.reads in
+    let lost = c.in-Ok-read_row.lost in
+    let heals = lost-heals v.parity lost c.in-Ok-read_row.ensures.lost in
     let next = row-next b turn row many.ensures.fresh inv.had c.in-Ok.ensures.moved c.in-Ok.ensures.ok gets in
     let far_to = far b turn row many.ensures.fresh inv.had c.in-Ok.ensures.moved c.in-Ok.ensures.ok gets in
-    let ahead = row-ahead b turn row many.ensures.fresh c.checks.made inv.had c.in-Ok.ensures.moved gets (all-whole g.D.BlockDev.state g.met.D.BlockDev.whole c.walk_path.new.backing.devices.items) inv.room inv.ahead put c.digest_blocks.ensures in
+    let kept = row-kept b turn row many.ensures.fresh lost c.checks.made heals inv.had c.in-Ok.ensures.moved gets (all-whole g.D.BlockDev.state g.met.D.BlockDev.whole c.walk_path.new.backing.devices.items) inv.room inv.ahead put c.digest_blocks.ensures in
     let made : List (List ℕ) = put_mid j (j + many.result - j) c.checks.made c.digest_blocks.new.out in
     let same = place-turn p tree.result (p.first / c.from.result + j) j tree.ensures.tree.on_hash c.requires.fits.holds.of.on_hash tree.ensures.data tree.ensures.tree.on_parity c.requires.fits.holds.of.on_parity turn.index in
-    let settled = settles-at p tree.result (p.first / c.from.result + j) j _ _ _ c.judge-judged.ensures turn.index same c.in-Err-settle_block.ensures.reads in
+    let to : ℕ = alone_after lost (max c.checks.read (j + many.result)) c.checks.alone in
+    let alone_is : c.alone_as_far-alone.result ≡ to = c.alone_as_far-alone.ensures ∙ ap (λ (k : ℕ). alone_after lost k c.checks.alone) c.read_as_far-read.ensures in
+    let plain = together-from j c.alone_as_far-alone.result to alone_is in
+    let lone = lone-from j c.alone_as_far-alone.result to alone_is in
+    let parity = λ (is : nat_lt j c.alone_as_far-alone.result ≡ true). heals-after v.parity lost (max c.checks.read (j + many.result)) c.checks.alone j inv.ahead.heals heals (lone is) in
+    let settled = settles-at p tree.result (p.first / c.from.result + j) j _ _ _ _ c.judge-judged.ensures turn.index same c.in-Err-settle_block.ensures.reads in
     let settled_on = settled-on g.D.BlockDev.state config (place_at p (p.first / block_sectors v + j)) _ settled in
-    finds-as c.args.chains (unsettled b _ turn.inside far_to next put.len put.end made c.index-made-at.result c.is_ignored.ensures ahead (row-covers many.ensures.some) c.in-Err-settle_block.vain settled_on) inv.out inv.had.distinct
+    finds-as c.args.chains (unsettled b _ turn.inside far_to next put.len put.end made c.index-made-at.result c.is_ignored.ensures plain parity kept (row-covers many.ensures.some) c.in-Err-settle_block.vain settled_on) inv.out inv.had.distinct
 
 pub read_blocks-keep-requires : goal.read_blocks-keep-requires
 read_blocks-keep-requires g t c =
@@ -1063,7 +1072,7 @@ read_blocks-keep-requires g t c =
     let j : ℕ = c.checks.at in
     let many = c.row_len-many in
     let b = blocks-at c.requires in
-    let out : List ℕ = put_mid (j * v.data_block) (j * v.data_block + many.result * v.data_block - j * v.data_block) c.checks.out c.read_beneath.new.out in
+    let out : List ℕ = put_mid (j * v.data_block) (j * v.data_block + many.result * v.data_block - j * v.data_block) c.checks.out c.read_row.new.out in
     let all : List ℕ = put_mid (j * v.data_block) (j * v.data_block + v.data_block - j * v.data_block) out c.settle_block.new.block in
     let width : j * v.data_block + v.data_block - j * v.data_block ≡ v.data_block = sub-same (j * v.data_block) v.data_block in
     let len = length-take (j * v.data_block + v.data_block - j * v.data_block) (drop (j * v.data_block) all) in
@@ -1084,14 +1093,21 @@ read_blocks-returns-in-Err-keep-clause-reads g t c =
     let b = blocks-at c.requires in
     let turn = turn-at b inv c.requires.fits.sectors.whole c.from.ensures c.checks-test.true in
     let row = row-at b turn many.result many.ensures.most in
-    let put = put-at b turn row c.read_beneath.new.out c.read_beneath.auto.out in
-    let gets = row-got b turn row tree.ensures.data c.data_extent-extent.ensures c.in-Ok-read_beneath.ensures.reads in
+    let put = put-at b turn row c.read_row.new.out c.read_row.auto.out in
+    let gets = row-got b turn row tree.ensures.data c.data_extent-extent.ensures c.in-Ok-read_row.ensures.reads in
+    let lost = c.in-Ok-read_row.lost in
+    let heals = lost-heals v.parity lost c.in-Ok-read_row.ensures.lost in
     let next = row-next b turn row many.ensures.fresh inv.had c.in-Ok.ensures.moved c.in-Ok.ensures.ok gets in
     let far_to = far b turn row many.ensures.fresh inv.had c.in-Ok.ensures.moved c.in-Ok.ensures.ok gets in
     let same = place-turn p tree.result (p.first / c.from.result + j) j tree.ensures.tree.on_hash c.requires.fits.holds.of.on_hash tree.ensures.data tree.ensures.tree.on_parity c.requires.fits.holds.of.on_parity turn.index in
-    let settled = settles-at p tree.result (p.first / c.from.result + j) j _ _ _ c.judge-judged.ensures turn.index same c.in-Ok-settle_block.ensures.reads in
+    let to : ℕ = alone_after lost (max c.checks.read (j + many.result)) c.checks.alone in
+    let alone_is : c.alone_as_far-alone.result ≡ to = c.alone_as_far-alone.ensures ∙ ap (λ (k : ℕ). alone_after lost k c.checks.alone) c.read_as_far-read.ensures in
+    let plain = together-from j c.alone_as_far-alone.result to alone_is in
+    let lone = lone-from j c.alone_as_far-alone.result to alone_is in
+    let parity = λ (is : nat_lt j c.alone_as_far-alone.result ≡ true). heals-after v.parity lost (max c.checks.read (j + many.result)) c.checks.alone j inv.ahead.heals heals (lone is) in
+    let settled = settles-at p tree.result (p.first / c.from.result + j) j _ _ _ _ c.judge-judged.ensures turn.index same c.in-Ok-settle_block.ensures.reads in
     let settled_on = settled-on g.D.BlockDev.state config (place_at p (p.first / block_sectors v + j)) _ settled in
-    let more = settled-moved config v _ settled_on in
+    let more = settled-moved config v _ parity settled_on in
     finds-as c.args.chains (block-full b _ turn.inside far_to next put.len put.end more c.in-Err-keep.ensures.err) (subst (AreHandedOut c.args.chains c.args.found.now.items inv.after) (sym c.in-Err-keep.ensures.same) inv.out) inv.had.distinct
 
 pub read_blocks-checks-preserved : goal.read_blocks-checks-preserved
@@ -1107,41 +1123,50 @@ read_blocks-checks-preserved g t c =
     let b = blocks-at c.requires in
     let turn = turn-at b inv c.requires.fits.sectors.whole c.from.ensures c.checks-test.true in
     let row = row-at b turn many.result many.ensures.most in
-    let put = put-at b turn row c.read_beneath.new.out c.read_beneath.auto.out in
-    let gets = row-got b turn row tree.ensures.data c.data_extent-extent.ensures c.in-Ok-read_beneath.ensures.reads in
+    let put = put-at b turn row c.read_row.new.out c.read_row.auto.out in
+    let gets = row-got b turn row tree.ensures.data c.data_extent-extent.ensures c.in-Ok-read_row.ensures.reads in
+    let lost = c.in-Ok-read_row.lost in
+    let heals = lost-heals v.parity lost c.in-Ok-read_row.ensures.lost in
     let next = row-next b turn row many.ensures.fresh inv.had c.in-Ok.ensures.moved c.in-Ok.ensures.ok gets in
     let far_to = far b turn row many.ensures.fresh inv.had c.in-Ok.ensures.moved c.in-Ok.ensures.ok gets in
-    let ahead = row-ahead b turn row many.ensures.fresh c.checks.made inv.had c.in-Ok.ensures.moved gets (all-whole g.D.BlockDev.state g.met.D.BlockDev.whole c.walk_path.new.backing.devices.items) inv.room inv.ahead put c.digest_blocks.ensures in
+    let kept = row-kept b turn row many.ensures.fresh lost c.checks.made heals inv.had c.in-Ok.ensures.moved gets (all-whole g.D.BlockDev.state g.met.D.BlockDev.whole c.walk_path.new.backing.devices.items) inv.room inv.ahead put c.digest_blocks.ensures in
     let made : List (List ℕ) = put_mid j (j + many.result - j) c.checks.made c.digest_blocks.new.out in
     let same = place-turn p tree.result (p.first / c.from.result + j) j tree.ensures.tree.on_hash c.requires.fits.holds.of.on_hash tree.ensures.data tree.ensures.tree.on_parity c.requires.fits.holds.of.on_parity turn.index in
-    let settled = settles-at p tree.result (p.first / c.from.result + j) j _ _ _ c.judge-judged.ensures turn.index same c.in-Ok-settle_block.ensures.reads in
+    let to : ℕ = alone_after lost (max c.checks.read (j + many.result)) c.checks.alone in
+    let alone_is : c.alone_as_far-alone.result ≡ to = c.alone_as_far-alone.ensures ∙ ap (λ (k : ℕ). alone_after lost k c.checks.alone) c.read_as_far-read.ensures in
+    let plain = together-from j c.alone_as_far-alone.result to alone_is in
+    let lone = lone-from j c.alone_as_far-alone.result to alone_is in
+    let parity = λ (is : nat_lt j c.alone_as_far-alone.result ≡ true). heals-after v.parity lost (max c.checks.read (j + many.result)) c.checks.alone j inv.ahead.heals heals (lone is) in
+    let settled = settles-at p tree.result (p.first / c.from.result + j) j _ _ _ _ c.judge-judged.ensures turn.index same c.in-Ok-settle_block.ensures.reads in
     let settled_on = settled-on g.D.BlockDev.state config (place_at p (p.first / block_sectors v + j)) _ settled in
     let settle = c.in-Ok-settle_block.ensures in
-    let more = settled-moved config v _ settled_on in
+    let more = settled-moved config v _ parity settled_on in
     let front = put.front (512 * (j * block_sectors v)) (omega (arith, block-begin b j)) in
     let levels_are : c.levels.result ≡ levels (tree_of v) = c.levels.ensures.value ∙ ap levels tree.ensures.tree.shape_is in
     let slice : List CachedBlock = c.as_slice.result.now in
     let path_is : map block_bytes (take c.levels.result slice) ≡ map block_bytes (take (levels (tree_of v)) c.walk_path.new.path.items) =
     ap (λ (l : List CachedBlock). map block_bytes (take c.levels.result l)) c.as_slice.ensures.value ∙ ap (λ (k : ℕ). map block_bytes (take k c.walk_path.new.path.items)) levels_are in
-    let out : List ℕ = put_mid (j * v.data_block) (j * v.data_block + many.result * v.data_block - j * v.data_block) c.checks.out c.read_beneath.new.out in
+    let out : List ℕ = put_mid (j * v.data_block) (j * v.data_block + many.result * v.data_block - j * v.data_block) c.checks.out c.read_row.new.out in
     let block : List ℕ = c.settle_block.new.block in
     let content : List ℕ = take (j * v.data_block + v.data_block - j * v.data_block) (drop (j * v.data_block) (put_mid (j * v.data_block) (j * v.data_block + v.data_block - j * v.data_block) out block)) in
-    let got = settled-got b out turn.inside far_to next put.len put.end made c.index-made-at.result c.is_ignored.ensures ahead (row-covers many.ensures.some) settled_on in
+    let got = settled-got b out turn.inside far_to next put.len put.end made c.index-made-at.result c.is_ignored.ensures plain parity kept (row-covers many.ensures.some) settled_on in
     let had = block-checked b out turn.inside far_to next put.len put.end more block front c.settle_block.auto.block got turn.index path_is in
-    let rest = rest-ahead b out turn.inside far_to next put.len put.end more block front c.settle_block.auto.block made ahead in
+    let rest = next-kept (written b out turn.inside far_to next put.len put.end more block front c.settle_block.auto.block) kept (rest-ahead b out turn.inside far_to next put.len put.end more block front c.settle_block.auto.block made) in
     let walked = blocks-way all.given turn.inside same c.in-Ok.ensures.given in
     let goes = path-last c.as_slice.ensures.value (c.levels.ensures.value ∙ ap levels tree.ensures.tree.shape_is) in
-    let given = c.in-Ok-read_beneath.ensures.given in
-    let rowed = row-given walked many.result (j * v.data_block + many.result * v.data_block - j * v.data_block) (sub-same (j * v.data_block) (many.result * v.data_block)) put.wide row.end many.ensures.fresh
-    (λ some. together-at p (length c.args.out.now / 512) j many.result _ same turn.count goes c.is_ignored.ensures (many.ensures.together some)) (row-stays p v.data_block many.result row.len given)
+    let given = c.in-Ok-read_row.ensures.given in
+    let rowed = row-after walked many.result inv.ahead.lone row.end many.ensures.fresh
+    (λ some. together-at p (length c.args.out.now / 512) j many.result _ same turn.count goes c.is_ignored.ensures (many.ensures.together some))
+    lost c.read_row.new.out (j * v.data_block + many.result * v.data_block - j * v.data_block) (sub-same (j * v.data_block) (many.result * v.data_block)) put.wide (λ fault is. (row-asked many.result v.data_block _ row.len (λ none. lost-fails lost c.read_row.new.out (given.none none).1 fault is), heals fault is)) (row-stays p v.data_block many.result row.len given)
     (λ some. gives-at p j many.result tree.ensures.data (row-begins (block_sectors v) (p.first / c.from.result + j) (p.first / block_sectors v + j) c.data_extent-extent.ensures.value turn.index) row.sectors (row-some many.result v.data_block (block_sectors v) _ row.len b.size.whole b.size.some some) given) in
     let near : j * v.data_block + v.data_block - j * v.data_block ≡ v.data_block = sub-same (j * v.data_block) v.data_block in
     let wide : length block ≡ v.data_block = c.settle_block.auto.block ∙ stood-len b out turn.inside far_to next put.len put.end ∙ near in
-    let settled_given = settled-given rowed (j * v.data_block + v.data_block - j * v.data_block) near turn.inside (sym b.size.whole) put.end _ c.is_ignored.ensures (row-covers many.ensures.some)
-    (λ used. digest-made b _ turn.inside far_to next put.len put.end made c.index-made-at.result ahead (row-covers many.ensures.some used)) block wide settled in
+    let settled_given = settled-given rowed (j * v.data_block + v.data_block - j * v.data_block) near turn.inside (sym b.size.whole) put.end plain (λ is. (lone is, kept.lone (lone is))) _ c.is_ignored.ensures (row-covers many.ensures.some)
+    (λ low used. digest-made b _ turn.inside far_to next put.len put.end made c.index-made-at.result (kept.ahead low) (row-covers many.ensures.some used)) block wide settled in
+    let Upto : ℕ → ℕ → Type 0 = λ r a. BlocksUpTo (DeviceDoes g.D.BlockDev.state g.D.BlockDev.does) config p (length c.args.out.now / 512) r a (j + 1) (put_mid (j * v.data_block) (j * v.data_block + v.data_block - j * v.data_block) out block) (served c.args.backing.now) (served c.settle_block.new.backing) in
     record {
-      checked = checked-as c.read_as_far-read.ensures (record {
-        size = same_len_mid _ _ _ _ c.settle_block.auto.block ∙ same_len_mid _ _ _ _ c.read_beneath.auto.out ∙ inv.size;
+      checked = checked-as c.read_as_far-read.ensures alone_is (record {
+        size = same_len_mid _ _ _ _ c.settle_block.auto.block ∙ same_len_mid _ _ _ _ c.read_row.auto.out ∙ inv.size;
         room = same_len_mid _ _ _ _ c.digest_blocks.auto.out ∙ inv.room;
         within = omega (arith, turn.inside);
         most = far_to;
@@ -1151,9 +1176,9 @@ read_blocks-checks-preserved g t c =
         had = had;
         ahead = rest;
       });
-      cached = record { capacity = settle.cached.capacity ∙ c.in-Ok-read_beneath.ensures.cached.capacity ∙ c.in-Ok.ensures.cached.capacity ∙ all.cached.capacity; sound = settle.cached.sound };
-      touches = asks-then (data-touched config v tree.result b.loaded tree.ensures.tree p.device tree.ensures.device all.touches c.in-Ok.ensures.touches c.in-Ok-read_beneath.ensures.touches) (asks-up (same-within config tree.ensures.device) settle.touches);
-      given = subst (λ (k : ℕ). BlocksUpTo (DeviceDoes g.D.BlockDev.state g.D.BlockDev.does) config p (length c.args.out.now / 512) k (j + 1) (put_mid (j * v.data_block) (j * v.data_block + v.data_block - j * v.data_block) out block) (served c.args.backing.now) (served c.settle_block.new.backing)) (sym c.read_as_far-read.ensures) settled_given;
+      cached = record { capacity = settle.cached.capacity ∙ c.in-Ok-read_row.ensures.cached.capacity ∙ c.in-Ok.ensures.cached.capacity ∙ all.cached.capacity; sound = settle.cached.sound };
+      touches = asks-then (data-touched config v tree.result b.loaded tree.ensures.tree p.device tree.ensures.device all.touches c.in-Ok.ensures.touches (asks-lost v.parity lost c.read_row.new.out (λ none. none tree.result.device.0 tree.result.line v tree.ensures.tree.is) heals c.in-Ok-read_row.ensures.touches)) (asks-up (same-within config tree.ensures.device) settle.touches);
+      given = subst (λ (k : ℕ). Upto c.read_as_far-read.result k) (sym alone_is) (subst (λ (k : ℕ). Upto k to) (sym c.read_as_far-read.ensures) settled_given);
     }
 
 pub read_blocks-returns-clause-reads : goal.read_blocks-returns-clause-reads
@@ -1171,19 +1196,19 @@ read_blocks-returns-in-Err-clause-step g t c =
     (record { capacity = c.in-Err.ensures.cached.capacity ∙ all.cached.capacity; sound = c.in-Err.ensures.cached.sound })
     (asks-then all.touches (asks-as (Err c.in-Err.first) walked.fault (λ failures. refl) walked)) (way-costs b turn all.checked.had c.in-Err.ensures.moved)
 
-pub read_blocks-returns-in-Err-read_beneath-clause-step : goal.read_blocks-returns-in-Err-read_beneath-clause-step
-read_blocks-returns-in-Err-read_beneath-clause-step g t c =
+pub read_blocks-returns-in-Err-read_row-clause-step : goal.read_blocks-returns-in-Err-read_row-clause-step
+read_blocks-returns-in-Err-read_row-clause-step g t c =
     let config = c.args.config.now in
     let tree = c.tree_of-tree in
     let all = c.checks.invariant in
     let many = c.row_len-many in
-    let read = c.in-Err-read_beneath.ensures in
+    let read = c.in-Err-read_row.ensures in
     let b = blocks-at c.requires in
     let turn = turn-at b all.checked c.requires.fits.sectors.whole c.from.ensures c.checks-test.true in
     let row = row-at b turn many.result many.ensures.most in
     step-met (blocks-meet config c.args.part (length c.args.out.now / 512) (omega (arith, c.requires.fits.sectors.some, c.requires.fits.sectors.whole)))
     (record { capacity = read.cached.capacity ∙ c.in-Ok.ensures.cached.capacity ∙ all.cached.capacity; sound = read.cached.sound })
-    (data-touched config c.args.part.verity.now tree.result b.loaded tree.ensures.tree c.args.part.device tree.ensures.device all.touches c.in-Ok.ensures.touches read.touches)
+    (data-touched config c.args.part.verity.now tree.result b.loaded tree.ensures.tree c.args.part.device tree.ensures.device all.touches c.in-Ok.ensures.touches (asks-as (Err c.in-Err-read_row.met) read.touches.fault (λ failures. refl) read.touches))
     (row-costs b turn row many.ensures.fresh all.checked.had c.in-Ok.ensures.moved c.in-Ok.ensures.ok (row-got b turn row c.tree_of-tree.ensures.data c.data_extent-extent.ensures read.reads))
 
 pub read_blocks-returns-in-Err-settle_block-clause-step : goal.read_blocks-returns-in-Err-settle_block-clause-step
@@ -1199,18 +1224,25 @@ read_blocks-returns-in-Err-settle_block-clause-step g t c =
     let b = blocks-at c.requires in
     let turn = turn-at b inv c.requires.fits.sectors.whole c.from.ensures c.checks-test.true in
     let row = row-at b turn many.result many.ensures.most in
-    let put = put-at b turn row c.read_beneath.new.out c.read_beneath.auto.out in
-    let gets = row-got b turn row tree.ensures.data c.data_extent-extent.ensures c.in-Ok-read_beneath.ensures.reads in
+    let put = put-at b turn row c.read_row.new.out c.read_row.auto.out in
+    let gets = row-got b turn row tree.ensures.data c.data_extent-extent.ensures c.in-Ok-read_row.ensures.reads in
+    let lost = c.in-Ok-read_row.lost in
+    let heals = lost-heals v.parity lost c.in-Ok-read_row.ensures.lost in
     let next = row-next b turn row many.ensures.fresh inv.had c.in-Ok.ensures.moved c.in-Ok.ensures.ok gets in
     let far_to = far b turn row many.ensures.fresh inv.had c.in-Ok.ensures.moved c.in-Ok.ensures.ok gets in
     let same = place-turn p tree.result (p.first / c.from.result + j) j tree.ensures.tree.on_hash c.requires.fits.holds.of.on_hash tree.ensures.data tree.ensures.tree.on_parity c.requires.fits.holds.of.on_parity turn.index in
-    let settled = settles-at p tree.result (p.first / c.from.result + j) j _ _ _ c.judge-judged.ensures turn.index same c.in-Err-settle_block.ensures.reads in
+    let to : ℕ = alone_after lost (max c.checks.read (j + many.result)) c.checks.alone in
+    let alone_is : c.alone_as_far-alone.result ≡ to = c.alone_as_far-alone.ensures ∙ ap (λ (k : ℕ). alone_after lost k c.checks.alone) c.read_as_far-read.ensures in
+    let plain = together-from j c.alone_as_far-alone.result to alone_is in
+    let lone = lone-from j c.alone_as_far-alone.result to alone_is in
+    let parity = λ (is : nat_lt j c.alone_as_far-alone.result ≡ true). heals-after v.parity lost (max c.checks.read (j + many.result)) c.checks.alone j inv.ahead.heals heals (lone is) in
+    let settled = settles-at p tree.result (p.first / c.from.result + j) j _ _ _ _ c.judge-judged.ensures turn.index same c.in-Err-settle_block.ensures.reads in
     let settled_on = settled-on g.D.BlockDev.state config (place_at p (p.first / block_sectors v + j)) _ settled in
     let settle = c.in-Err-settle_block.ensures in
     step-met (blocks-meet config p (length c.args.out.now / 512) (omega (arith, c.requires.fits.sectors.some, c.requires.fits.sectors.whole)))
-    (record { capacity = settle.cached.capacity ∙ c.in-Ok-read_beneath.ensures.cached.capacity ∙ c.in-Ok.ensures.cached.capacity ∙ all.cached.capacity; sound = settle.cached.sound })
-    (asks-then (data-touched config v tree.result b.loaded tree.ensures.tree p.device tree.ensures.device all.touches c.in-Ok.ensures.touches c.in-Ok-read_beneath.ensures.touches) (asks-up (same-within config tree.ensures.device) settle.touches))
-    (block-costs b _ turn.inside far_to next put.len put.end (settled-moved config v _ settled_on))
+    (record { capacity = settle.cached.capacity ∙ c.in-Ok-read_row.ensures.cached.capacity ∙ c.in-Ok.ensures.cached.capacity ∙ all.cached.capacity; sound = settle.cached.sound })
+    (asks-then (data-touched config v tree.result b.loaded tree.ensures.tree p.device tree.ensures.device all.touches c.in-Ok.ensures.touches (asks-lost v.parity lost c.read_row.new.out (λ none. none tree.result.device.0 tree.result.line v tree.ensures.tree.is) heals c.in-Ok-read_row.ensures.touches)) (asks-up (same-within config tree.ensures.device) settle.touches))
+    (block-costs b _ turn.inside far_to next put.len put.end (settled-moved config v _ parity settled_on))
 
 pub read_blocks-returns-in-Err-keep-clause-step : goal.read_blocks-returns-in-Err-keep-clause-step
 read_blocks-returns-in-Err-keep-clause-step g t c =
@@ -1225,24 +1257,49 @@ read_blocks-returns-in-Err-keep-clause-step g t c =
     let b = blocks-at c.requires in
     let turn = turn-at b inv c.requires.fits.sectors.whole c.from.ensures c.checks-test.true in
     let row = row-at b turn many.result many.ensures.most in
-    let put = put-at b turn row c.read_beneath.new.out c.read_beneath.auto.out in
-    let gets = row-got b turn row tree.ensures.data c.data_extent-extent.ensures c.in-Ok-read_beneath.ensures.reads in
+    let put = put-at b turn row c.read_row.new.out c.read_row.auto.out in
+    let gets = row-got b turn row tree.ensures.data c.data_extent-extent.ensures c.in-Ok-read_row.ensures.reads in
+    let lost = c.in-Ok-read_row.lost in
+    let heals = lost-heals v.parity lost c.in-Ok-read_row.ensures.lost in
     let next = row-next b turn row many.ensures.fresh inv.had c.in-Ok.ensures.moved c.in-Ok.ensures.ok gets in
     let far_to = far b turn row many.ensures.fresh inv.had c.in-Ok.ensures.moved c.in-Ok.ensures.ok gets in
     let same = place-turn p tree.result (p.first / c.from.result + j) j tree.ensures.tree.on_hash c.requires.fits.holds.of.on_hash tree.ensures.data tree.ensures.tree.on_parity c.requires.fits.holds.of.on_parity turn.index in
-    let settled = settles-at p tree.result (p.first / c.from.result + j) j _ _ _ c.judge-judged.ensures turn.index same c.in-Ok-settle_block.ensures.reads in
+    let to : ℕ = alone_after lost (max c.checks.read (j + many.result)) c.checks.alone in
+    let alone_is : c.alone_as_far-alone.result ≡ to = c.alone_as_far-alone.ensures ∙ ap (λ (k : ℕ). alone_after lost k c.checks.alone) c.read_as_far-read.ensures in
+    let plain = together-from j c.alone_as_far-alone.result to alone_is in
+    let lone = lone-from j c.alone_as_far-alone.result to alone_is in
+    let parity = λ (is : nat_lt j c.alone_as_far-alone.result ≡ true). heals-after v.parity lost (max c.checks.read (j + many.result)) c.checks.alone j inv.ahead.heals heals (lone is) in
+    let settled = settles-at p tree.result (p.first / c.from.result + j) j _ _ _ _ c.judge-judged.ensures turn.index same c.in-Ok-settle_block.ensures.reads in
     let settled_on = settled-on g.D.BlockDev.state config (place_at p (p.first / block_sectors v + j)) _ settled in
     let settle = c.in-Ok-settle_block.ensures in
     step-met (blocks-meet config p (length c.args.out.now / 512) (omega (arith, c.requires.fits.sectors.some, c.requires.fits.sectors.whole)))
-    (record { capacity = settle.cached.capacity ∙ c.in-Ok-read_beneath.ensures.cached.capacity ∙ c.in-Ok.ensures.cached.capacity ∙ all.cached.capacity; sound = settle.cached.sound })
-    (asks-as (Err NoMemory) tt (λ failures. refl) (asks-then (data-touched config v tree.result b.loaded tree.ensures.tree p.device tree.ensures.device all.touches c.in-Ok.ensures.touches c.in-Ok-read_beneath.ensures.touches) (asks-up (same-within config tree.ensures.device) settle.touches)))
-    (block-costs b _ turn.inside far_to next put.len put.end (settled-moved config v _ settled_on))
+    (record { capacity = settle.cached.capacity ∙ c.in-Ok-read_row.ensures.cached.capacity ∙ c.in-Ok.ensures.cached.capacity ∙ all.cached.capacity; sound = settle.cached.sound })
+    (asks-as (Err NoMemory) tt (λ failures. refl) (asks-then (data-touched config v tree.result b.loaded tree.ensures.tree p.device tree.ensures.device all.touches c.in-Ok.ensures.touches (asks-lost v.parity lost c.read_row.new.out (λ none. none tree.result.device.0 tree.result.line v tree.ensures.tree.is) heals c.in-Ok-read_row.ensures.touches)) (asks-up (same-within config tree.ensures.device) settle.touches)))
+    (block-costs b _ turn.inside far_to next put.len put.end (settled-moved config v _ parity settled_on))
 
 pub read_blocks-returns-clause-step : goal.read_blocks-returns-clause-step
 read_blocks-returns-clause-step g t c =
     let all = c.checks.invariant in
     step-met (blocks-meet c.args.config.now c.args.part (length c.args.out.now / 512) (omega (arith, c.requires.fits.sectors.some, c.requires.fits.sectors.whole))) all.cached all.touches
     (had-spent (blocks-at c.requires) c.checks.read c.checks.at c.checks.at all.checked.most all.checked.within all.checked.within all.checked.had.moved)
+
+pub read_row-read_beneath-requires : goal.read_row-read_beneath-requires
+read_row-read_beneath-requires g t c κs within = (omega arith, (within, (c.requires.stack, (c.requires.whole, c.requires.inside))))
+
+pub read_row-returns-in-Ok-clause-touches : goal.read_row-returns-in-Ok-clause-touches
+read_row-returns-in-Ok-clause-touches g t c = asks-as (Ok c.read_beneath.new.out) tt (λ failures. refl) c.in-Ok.ensures.touches
+
+pub read_row-returns-then-can_heal-clause-touches : goal.read_row-returns-then-can_heal-clause-touches
+read_row-returns-then-can_heal-clause-touches g t c = asks-as (Err c.in-Err.fault) c.in-Err.ensures.touches.fault (λ failures. refl) c.in-Err.ensures.touches
+
+pub read_row-returns-else-can_heal-clause-touches : goal.read_row-returns-else-can_heal-clause-touches
+read_row-returns-else-can_heal-clause-touches g t c = asks-as (Err c.in-Err.fault) c.in-Err.ensures.touches.fault (λ failures. refl) c.in-Err.ensures.touches
+
+pub read_row-returns-then-can_heal-clause-lost : goal.read_row-returns-then-can_heal-clause-lost
+read_row-returns-then-can_heal-clause-lost g t c = sym c.can_heal.ensures ∙ c.if-can_heal.true
+
+pub read_row-returns-else-can_heal-clause-lost : goal.read_row-returns-else-can_heal-clause-lost
+read_row-returns-else-can_heal-clause-lost g t c = sym c.can_heal.ensures ∙ c.if-can_heal.false
 
 pub read_beneath-returns-then-is_empty-clause-reads : goal.read_beneath-returns-then-is_empty-clause-reads
 read_beneath-returns-then-is_empty-clause-reads g t c =
@@ -1667,13 +1724,13 @@ read_blocks-returns-in-Err-clause-given g t c =
     let tree = c.tree_of-tree in
     blocks-unled c.checks.invariant.given turn.inside (place-turn c.args.part tree.result (c.args.part.first / c.from.result + c.checks.at) c.checks.at tree.ensures.tree.on_hash c.requires.fits.holds.of.on_hash tree.ensures.data tree.ensures.tree.on_parity c.requires.fits.holds.of.on_parity turn.index) c.in-Err.ensures.given
 
-pub read_blocks-returns-in-Err-read_beneath-clause-given : goal.read_blocks-returns-in-Err-read_beneath-clause-given
-read_blocks-returns-in-Err-read_beneath-clause-given g t c =
+pub read_blocks-returns-in-Err-read_row-clause-given : goal.read_blocks-returns-in-Err-read_row-clause-given
+read_blocks-returns-in-Err-read_row-clause-given g t c =
     let b = blocks-at c.requires in
     let v = c.args.part.verity.now in
     let tree = c.tree_of-tree in
     let many = c.row_len-many in
-    let given = c.in-Err-read_beneath.ensures.given in
+    let given = c.in-Err-read_row.ensures.given in
     let turn = turn-at b c.checks.invariant.checked c.requires.fits.sectors.whole c.from.ensures c.checks-test.true in
     let row = row-at b turn many.result many.ensures.most in
     let same = place-turn c.args.part tree.result (c.args.part.first / c.from.result + c.checks.at) c.checks.at tree.ensures.tree.on_hash c.requires.fits.holds.of.on_hash tree.ensures.data tree.ensures.tree.on_parity c.requires.fits.holds.of.on_parity turn.index in
@@ -1682,7 +1739,8 @@ read_blocks-returns-in-Err-read_beneath-clause-given g t c =
     let some : 0 < many.result = row-asked many.result v.data_block _ row.len (λ none. let clash : false ≡ true = (given.none none).1 in cc) in
     let low : c.checks.read ≤ c.checks.at = elim many.ensures.fresh [ inl none ↦ absurd (omega (arith, none, some)) | inr old ↦ old ] in
     let j : ℕ = c.checks.at in
-    row-ungiven walked many.result low (together-at c.args.part (length c.args.out.now / 512) j many.result _ same turn.count goes c.is_ignored.ensures (many.ensures.together some))
+    let high : c.checks.alone ≤ j = elim (cases_lt j c.checks.alone) [ inl alone ↦ absurd (omega (arith, c.checks.invariant.checked.ahead.lone alone, alone, low)) | inr high ↦ high ] in
+    row-ungiven (way-plain high walked) many.result low c.in-Err-read_row.ensures.lost (together-at c.args.part (length c.args.out.now / 512) j many.result _ same turn.count goes c.is_ignored.ensures (many.ensures.together some))
     (gives-at c.args.part j many.result tree.ensures.data (row-begins (block_sectors v) (c.args.part.first / c.from.result + j) (c.args.part.first / block_sectors v + j) c.data_extent-extent.ensures.value turn.index) row.sectors (row-some many.result v.data_block (block_sectors v) _ row.len b.size.whole b.size.some some) given)
 
 pub read_blocks-returns-in-Err-settle_block-clause-given : goal.read_blocks-returns-in-Err-settle_block-clause-given
@@ -1698,24 +1756,32 @@ read_blocks-returns-in-Err-settle_block-clause-given g t c =
     let b = blocks-at c.requires in
     let turn = turn-at b inv c.requires.fits.sectors.whole c.from.ensures c.checks-test.true in
     let row = row-at b turn many.result many.ensures.most in
-    let put = put-at b turn row c.read_beneath.new.out c.read_beneath.auto.out in
-    let gets = row-got b turn row tree.ensures.data c.data_extent-extent.ensures c.in-Ok-read_beneath.ensures.reads in
+    let put = put-at b turn row c.read_row.new.out c.read_row.auto.out in
+    let gets = row-got b turn row tree.ensures.data c.data_extent-extent.ensures c.in-Ok-read_row.ensures.reads in
+    let lost = c.in-Ok-read_row.lost in
+    let heals = lost-heals v.parity lost c.in-Ok-read_row.ensures.lost in
     let next = row-next b turn row many.ensures.fresh inv.had c.in-Ok.ensures.moved c.in-Ok.ensures.ok gets in
     let far_to = far b turn row many.ensures.fresh inv.had c.in-Ok.ensures.moved c.in-Ok.ensures.ok gets in
-    let ahead = row-ahead b turn row many.ensures.fresh c.checks.made inv.had c.in-Ok.ensures.moved gets (all-whole g.D.BlockDev.state g.met.D.BlockDev.whole c.walk_path.new.backing.devices.items) inv.room inv.ahead put c.digest_blocks.ensures in
+    let kept = row-kept b turn row many.ensures.fresh lost c.checks.made heals inv.had c.in-Ok.ensures.moved gets (all-whole g.D.BlockDev.state g.met.D.BlockDev.whole c.walk_path.new.backing.devices.items) inv.room inv.ahead put c.digest_blocks.ensures in
     let made : List (List ℕ) = put_mid j (j + many.result - j) c.checks.made c.digest_blocks.new.out in
     let same = place-turn p tree.result (p.first / c.from.result + j) j tree.ensures.tree.on_hash c.requires.fits.holds.of.on_hash tree.ensures.data tree.ensures.tree.on_parity c.requires.fits.holds.of.on_parity turn.index in
-    let settled = settles-at p tree.result (p.first / c.from.result + j) j _ _ _ c.judge-judged.ensures turn.index same c.in-Err-settle_block.ensures.reads in
+    let to : ℕ = alone_after lost (max c.checks.read (j + many.result)) c.checks.alone in
+    let alone_is : c.alone_as_far-alone.result ≡ to = c.alone_as_far-alone.ensures ∙ ap (λ (k : ℕ). alone_after lost k c.checks.alone) c.read_as_far-read.ensures in
+    let plain = together-from j c.alone_as_far-alone.result to alone_is in
+    let lone = lone-from j c.alone_as_far-alone.result to alone_is in
+    let parity = λ (is : nat_lt j c.alone_as_far-alone.result ≡ true). heals-after v.parity lost (max c.checks.read (j + many.result)) c.checks.alone j inv.ahead.heals heals (lone is) in
+    let settled = settles-at p tree.result (p.first / c.from.result + j) j _ _ _ _ c.judge-judged.ensures turn.index same c.in-Err-settle_block.ensures.reads in
     let settled_on = settled-on g.D.BlockDev.state config (place_at p (p.first / block_sectors v + j)) _ settled in
     let walked = blocks-way all.given turn.inside same c.in-Ok.ensures.given in
     let goes = path-last c.as_slice.ensures.value (c.levels.ensures.value ∙ ap levels tree.ensures.tree.shape_is) in
-    let given = c.in-Ok-read_beneath.ensures.given in
-    let rowed = row-given walked many.result (j * v.data_block + many.result * v.data_block - j * v.data_block) (sub-same (j * v.data_block) (many.result * v.data_block)) put.wide row.end many.ensures.fresh
-    (λ some. together-at p (length c.args.out.now / 512) j many.result _ same turn.count goes c.is_ignored.ensures (many.ensures.together some)) (row-stays p v.data_block many.result row.len given)
+    let given = c.in-Ok-read_row.ensures.given in
+    let rowed = row-after walked many.result inv.ahead.lone row.end many.ensures.fresh
+    (λ some. together-at p (length c.args.out.now / 512) j many.result _ same turn.count goes c.is_ignored.ensures (many.ensures.together some))
+    lost c.read_row.new.out (j * v.data_block + many.result * v.data_block - j * v.data_block) (sub-same (j * v.data_block) (many.result * v.data_block)) put.wide (λ fault is. (row-asked many.result v.data_block _ row.len (λ none. lost-fails lost c.read_row.new.out (given.none none).1 fault is), heals fault is)) (row-stays p v.data_block many.result row.len given)
     (λ some. gives-at p j many.result tree.ensures.data (row-begins (block_sectors v) (p.first / c.from.result + j) (p.first / block_sectors v + j) c.data_extent-extent.ensures.value turn.index) row.sectors (row-some many.result v.data_block (block_sectors v) _ row.len b.size.whole b.size.some some) given) in
     let near : j * v.data_block + v.data_block - j * v.data_block ≡ v.data_block = sub-same (j * v.data_block) v.data_block in
-    unsettled-given rowed (j * v.data_block + v.data_block - j * v.data_block) near turn.inside (sym b.size.whole) put.end _ c.is_ignored.ensures (row-covers many.ensures.some)
-    (λ used. digest-made b _ turn.inside far_to next put.len put.end made c.index-made-at.result ahead (row-covers many.ensures.some used)) c.in-Err-settle_block.vain settled
+    unsettled-given rowed (j * v.data_block + v.data_block - j * v.data_block) near turn.inside (sym b.size.whole) put.end plain (λ is. (lone is, kept.lone (lone is))) _ c.is_ignored.ensures (row-covers many.ensures.some)
+    (λ low used. digest-made b _ turn.inside far_to next put.len put.end made c.index-made-at.result (kept.ahead low) (row-covers many.ensures.some used)) c.in-Err-settle_block.vain settled
 
 pub read_blocks-returns-in-Err-keep-clause-given : goal.read_blocks-returns-in-Err-keep-clause-given
 read_blocks-returns-in-Err-keep-clause-given g t c =
@@ -1730,25 +1796,33 @@ read_blocks-returns-in-Err-keep-clause-given g t c =
     let b = blocks-at c.requires in
     let turn = turn-at b inv c.requires.fits.sectors.whole c.from.ensures c.checks-test.true in
     let row = row-at b turn many.result many.ensures.most in
-    let put = put-at b turn row c.read_beneath.new.out c.read_beneath.auto.out in
-    let gets = row-got b turn row tree.ensures.data c.data_extent-extent.ensures c.in-Ok-read_beneath.ensures.reads in
+    let put = put-at b turn row c.read_row.new.out c.read_row.auto.out in
+    let gets = row-got b turn row tree.ensures.data c.data_extent-extent.ensures c.in-Ok-read_row.ensures.reads in
+    let lost = c.in-Ok-read_row.lost in
+    let heals = lost-heals v.parity lost c.in-Ok-read_row.ensures.lost in
     let next = row-next b turn row many.ensures.fresh inv.had c.in-Ok.ensures.moved c.in-Ok.ensures.ok gets in
     let far_to = far b turn row many.ensures.fresh inv.had c.in-Ok.ensures.moved c.in-Ok.ensures.ok gets in
-    let ahead = row-ahead b turn row many.ensures.fresh c.checks.made inv.had c.in-Ok.ensures.moved gets (all-whole g.D.BlockDev.state g.met.D.BlockDev.whole c.walk_path.new.backing.devices.items) inv.room inv.ahead put c.digest_blocks.ensures in
+    let kept = row-kept b turn row many.ensures.fresh lost c.checks.made heals inv.had c.in-Ok.ensures.moved gets (all-whole g.D.BlockDev.state g.met.D.BlockDev.whole c.walk_path.new.backing.devices.items) inv.room inv.ahead put c.digest_blocks.ensures in
     let made : List (List ℕ) = put_mid j (j + many.result - j) c.checks.made c.digest_blocks.new.out in
     let same = place-turn p tree.result (p.first / c.from.result + j) j tree.ensures.tree.on_hash c.requires.fits.holds.of.on_hash tree.ensures.data tree.ensures.tree.on_parity c.requires.fits.holds.of.on_parity turn.index in
-    let settled = settles-at p tree.result (p.first / c.from.result + j) j _ _ _ c.judge-judged.ensures turn.index same c.in-Ok-settle_block.ensures.reads in
+    let to : ℕ = alone_after lost (max c.checks.read (j + many.result)) c.checks.alone in
+    let alone_is : c.alone_as_far-alone.result ≡ to = c.alone_as_far-alone.ensures ∙ ap (λ (k : ℕ). alone_after lost k c.checks.alone) c.read_as_far-read.ensures in
+    let plain = together-from j c.alone_as_far-alone.result to alone_is in
+    let lone = lone-from j c.alone_as_far-alone.result to alone_is in
+    let parity = λ (is : nat_lt j c.alone_as_far-alone.result ≡ true). heals-after v.parity lost (max c.checks.read (j + many.result)) c.checks.alone j inv.ahead.heals heals (lone is) in
+    let settled = settles-at p tree.result (p.first / c.from.result + j) j _ _ _ _ c.judge-judged.ensures turn.index same c.in-Ok-settle_block.ensures.reads in
     let settled_on = settled-on g.D.BlockDev.state config (place_at p (p.first / block_sectors v + j)) _ settled in
     let walked = blocks-way all.given turn.inside same c.in-Ok.ensures.given in
     let goes = path-last c.as_slice.ensures.value (c.levels.ensures.value ∙ ap levels tree.ensures.tree.shape_is) in
-    let given = c.in-Ok-read_beneath.ensures.given in
-    let rowed = row-given walked many.result (j * v.data_block + many.result * v.data_block - j * v.data_block) (sub-same (j * v.data_block) (many.result * v.data_block)) put.wide row.end many.ensures.fresh
-    (λ some. together-at p (length c.args.out.now / 512) j many.result _ same turn.count goes c.is_ignored.ensures (many.ensures.together some)) (row-stays p v.data_block many.result row.len given)
+    let given = c.in-Ok-read_row.ensures.given in
+    let rowed = row-after walked many.result inv.ahead.lone row.end many.ensures.fresh
+    (λ some. together-at p (length c.args.out.now / 512) j many.result _ same turn.count goes c.is_ignored.ensures (many.ensures.together some))
+    lost c.read_row.new.out (j * v.data_block + many.result * v.data_block - j * v.data_block) (sub-same (j * v.data_block) (many.result * v.data_block)) put.wide (λ fault is. (row-asked many.result v.data_block _ row.len (λ none. lost-fails lost c.read_row.new.out (given.none none).1 fault is), heals fault is)) (row-stays p v.data_block many.result row.len given)
     (λ some. gives-at p j many.result tree.ensures.data (row-begins (block_sectors v) (p.first / c.from.result + j) (p.first / block_sectors v + j) c.data_extent-extent.ensures.value turn.index) row.sectors (row-some many.result v.data_block (block_sectors v) _ row.len b.size.whole b.size.some some) given) in
     let near : j * v.data_block + v.data_block - j * v.data_block ≡ v.data_block = sub-same (j * v.data_block) v.data_block in
     let wide : length c.settle_block.new.block ≡ v.data_block = c.settle_block.auto.block ∙ stood-len b _ turn.inside far_to next put.len put.end ∙ near in
-    blocks-short (settled-given rowed (j * v.data_block + v.data_block - j * v.data_block) near turn.inside (sym b.size.whole) put.end _ c.is_ignored.ensures (row-covers many.ensures.some)
-    (λ used. digest-made b _ turn.inside far_to next put.len put.end made c.index-made-at.result ahead (row-covers many.ensures.some used)) c.settle_block.new.block wide settled)
+    blocks-short (settled-given rowed (j * v.data_block + v.data_block - j * v.data_block) near turn.inside (sym b.size.whole) put.end plain (λ is. (lone is, kept.lone (lone is))) _ c.is_ignored.ensures (row-covers many.ensures.some)
+    (λ low used. digest-made b _ turn.inside far_to next put.len put.end made c.index-made-at.result (kept.ahead low) (row-covers many.ensures.some used)) c.settle_block.new.block wide settled)
 
 pub read_blocks-returns-clause-given : goal.read_blocks-returns-clause-given
 read_blocks-returns-clause-given g t c =
@@ -2157,30 +2231,52 @@ heal-returns-in-Err-mend-clause-touches g t c =
 
 -- ---- a block that was read together with others
 
+pub settle_block-read_data-requires : goal.settle_block-read_data-requires
+settle_block-read_data-requires g t c κs within = (omega arith, (within, (c.requires.stack, c.requires.block)))
+
 pub settle_block-mend-requires : goal.settle_block-mend-requires
 settle_block-mend-requires g t c κs within = (omega arith, (within, (c.requires.stack, (data-verified c.requires.block, c.settle.auto.block ∙ c.requires.size))))
+
+pub settle_block-copy_from_slice-requires : goal.settle_block-copy_from_slice-requires
+settle_block-copy_from_slice-requires g t c =
+    let tree = c.args.tree.now in
+    let size = data-whole c.args.config.now tree.device.0 tree.line c.args.verity.now c.requires.stack.sound.loaded c.requires.block.lies.is in
+    omega (arith, c.requires.size, size.whole, c.in-Ok.ensures.reads.may.0, ap (λ (l : List ℕ). length l) c.as_slice.ensures.value)
+
+pub settle_block-returns-in-Err-clause-reads : goal.settle_block-returns-in-Err-clause-reads
+settle_block-returns-in-Err-clause-reads g t c = inr (inr (record { alone = c.if-one.true; own = Err c.in-Err.gone; is = refl; got = c.in-Err.ensures.reads; given = c.in-Err.ensures.given }))
+
+pub settle_block-returns-in-Ok-clause-reads : goal.settle_block-returns-in-Ok-clause-reads
+settle_block-returns-in-Ok-clause-reads g t c = inr (inr (record { alone = c.if-one.true; own = Ok c.in-Ok.content; is = ap Ok (c.copy_from_slice.ensures.after ∙ c.as_slice.ensures.value); got = c.in-Ok.ensures.reads; given = c.in-Ok.ensures.given }))
+
+pub settle_block-returns-in-Err-clause-touches : goal.settle_block-returns-in-Err-clause-touches
+settle_block-returns-in-Err-clause-touches g t c = asks-as (Err c.in-Err.gone) c.in-Err.ensures.touches.fault (λ failures. refl) c.in-Err.ensures.touches
+
+pub settle_block-returns-in-Ok-clause-touches : goal.settle_block-returns-in-Ok-clause-touches
+settle_block-returns-in-Ok-clause-touches g t c = asks-as (Ok tt) tt (λ failures. refl) c.in-Ok.ensures.touches
 
 pub settle_block-returns-then-settle-clause-reads : goal.settle_block-returns-then-settle-clause-reads
 settle_block-returns-then-settle-clause-reads g t c = inl (
   refl,
   record {
+    together = c.if-one.false;
     zeros = λ is. ap Ok (c.if-settle.ensures.zeros refl is);
     same = λ is. let own = c.if-settle.ensures.same refl is in (own.0, ap Ok own.1);
   },
 )
 
-pub settle_block-returns-in-Ok-clause-reads : goal.settle_block-returns-in-Ok-clause-reads
-settle_block-returns-in-Ok-clause-reads g t c =
+pub settle_block-returns-in-Ok-mend-clause-reads : goal.settle_block-returns-in-Ok-mend-clause-reads
+settle_block-returns-in-Ok-mend-clause-reads g t c =
     let other = c.if-settle.ensures.other refl in
-    inr (record { used = other.0; differs = other.1; spare = Ok c.mend.new.out; is = refl; got = c.in-Ok.ensures.reads; read = served c.mend.new.backing; counted = ap (serving c.mend.new.backing.devices.items) c.one_more-backing.ensures; given = c.in-Ok.ensures.given })
+    inr (inl (record { together = c.if-one.false; used = other.0; differs = other.1; spare = Ok c.mend.new.out; is = refl; got = c.in-Ok-mend.ensures.reads; read = served c.mend.new.backing; counted = ap (serving c.mend.new.backing.devices.items) c.one_more-backing.ensures; given = c.in-Ok-mend.ensures.given }))
 
-pub settle_block-returns-in-Err-clause-reads : goal.settle_block-returns-in-Err-clause-reads
-settle_block-returns-in-Err-clause-reads g t c =
+pub settle_block-returns-in-Err-mend-clause-reads : goal.settle_block-returns-in-Err-mend-clause-reads
+settle_block-returns-in-Err-mend-clause-reads g t c =
     let other = c.if-settle.ensures.other refl in
-    inr (record { used = other.0; differs = other.1; spare = Err c.in-Err.vain; is = ap Err c.unhealed.ensures; got = c.in-Err.ensures.reads; read = served c.mend.new.backing; counted = refl; given = c.in-Err.ensures.given })
+    inr (inl (record { together = c.if-one.false; used = other.0; differs = other.1; spare = Err c.in-Err-mend.vain; is = ap Err c.unhealed.ensures; got = c.in-Err-mend.ensures.reads; read = served c.mend.new.backing; counted = refl; given = c.in-Err-mend.ensures.given }))
 
-pub settle_block-returns-in-Err-clause-touches : goal.settle_block-returns-in-Err-clause-touches
-settle_block-returns-in-Err-clause-touches g t c = rw c.unhealed.ensures (asks-unhealed Mismatch c.in-Err.vain c.in-Err.ensures.touches)
+pub settle_block-returns-in-Err-mend-clause-touches : goal.settle_block-returns-in-Err-mend-clause-touches
+settle_block-returns-in-Err-mend-clause-touches g t c = rw c.unhealed.ensures (asks-unhealed Mismatch c.in-Err-mend.vain c.in-Err-mend.ensures.touches)
 
 pub fetch_data-heal-requires : goal.fetch_data-heal-requires
 fetch_data-heal-requires g t c κs within =

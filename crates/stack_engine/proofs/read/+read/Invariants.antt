@@ -22,8 +22,8 @@ use Rattle.stack_engine.specs.ReadSteps.{run_beneath, IsReadStep}
 use Rattle.stack_engine.proofs.read.+read.Given as goal
 
 -- 16 times the depth and a rank, of which 0 to 6 are left for the steps of a target: part of a unit takes 4, whole units 3,
--- a data block 6, the walk to it 5, its last step, a block of a row and a step of a path 4, reading it or a hash block on the way 3, healing 2, a spare 1, a step of
--- that 0, a hash block that may be kept 16 times its own depth and 11, and a block that is checked 16 times its own depth and 10
+-- a data block 6, the walk to it and a block of a row 5, its last step and a step of a path 4, reading it or a hash block on the way 3, healing 2, a spare 1, a step of
+-- that 0, a row and a hash block that may be kept 16 times their own depth and 11, and a block that is checked 16 times its own depth and 10
 
 abbrev pub decreases-read_lower : goal.decreases-read_lower
 decreases-read_lower g l = 16 * depth l.config.now l.from.0 + 9
@@ -115,17 +115,20 @@ invariant-walk_path-loop-left g l = record {
 abbrev pub decreases-walk_path-loop-left : goal.decreases-walk_path-loop-left
 decreases-walk_path-loop-left g l = l.left
 
+abbrev pub decreases-read_row : goal.decreases-read_row
+decreases-read_row g l = 16 * depth l.config.now l.from.0 + 11
+
 abbrev pub decreases-read_beneath : goal.decreases-read_beneath
 decreases-read_beneath g l = 16 * depth l.config.now l.lower + 10
 
 -- the blocks so far were read, and those after them are as they were read last
 abbrev pub invariant-read_blocks-checks : goal.invariant-read_blocks-checks
 invariant-read_blocks-checks g l = record {
-  checked : AreChecked l.config l.fn.part l.fn.chains l.fn.out l.read l.at l.out l.made l.path.items
+  checked : AreChecked l.config l.fn.part l.fn.chains l.fn.out l.read l.alone l.at l.out l.made l.path.items
       (map g.D.BlockDev.state l.fn.backing.devices.items) (map g.D.BlockDev.state l.backing.devices.items) l.fn.found.items l.found.items;
   cached : KeepsCache l.config (map g.D.BlockDev.state l.backing.devices.items) l.fn.backing.cache l.backing.cache;
   touches : AsksOnly {A = Unit {0}} (HasNoParity l.config) (leaves_of l.config (mapped l.fn.part.device.0)) (map g.D.BlockDev.state l.fn.backing.devices.items) (map g.D.BlockDev.state l.backing.devices.items) (Ok tt);
-  given : BlocksUpTo (DeviceDoes g.D.BlockDev.state g.D.BlockDev.does) l.config l.fn.part (length l.fn.out / 512) l.read l.at l.out (served l.fn.backing) (served l.backing);
+  given : BlocksUpTo (DeviceDoes g.D.BlockDev.state g.D.BlockDev.does) l.config l.fn.part (length l.fn.out / 512) l.read l.alone l.at l.out (served l.fn.backing) (served l.backing);
 }
 
 abbrev pub decreases-read_blocks-checks : goal.decreases-read_blocks-checks
@@ -141,7 +144,7 @@ abbrev pub decreases-mend : goal.decreases-mend
 decreases-mend g l = 16 * depth l.config.now (mapped l.tree.now.device.0) + 1
 
 abbrev pub decreases-settle_block : goal.decreases-settle_block
-decreases-settle_block g l = 16 * depth l.config.now (mapped l.tree.now.device.0) + 4
+decreases-settle_block g l = 16 * depth l.config.now (mapped l.tree.now.device.0) + 5
 
 abbrev pub decreases-heal : goal.decreases-heal
 decreases-heal g l = 16 * depth l.config.now (mapped l.tree.now.device.0) + 2
