@@ -144,13 +144,19 @@ def disk_stack(disk, features):
     return stack
 
 
+def warn(stack, files):
+    """Keeps the warnings of a stack for standard error."""
+    files.warnings = stack.configuration.warnings()
+
+
 def run_load(options, words, files, _given, features):
     (path,), rest = at_least(words, 1)
     if b"json" in options and b"tree" in options:
         raise Usage
     rest, text = begun(path, bindings(rest), files)
     stack = loaded(text, rest, files, features)
-    return Noted(configuration_lines(options, stack.configuration, rest), stack.configuration.warnings()), DONE
+    warn(stack, files)
+    return configuration_lines(options, stack.configuration, rest), DONE
 
 
 def configuration_lines(options, configuration, words):
@@ -177,6 +183,7 @@ def run_read(options, words, files, _given, features):
     first, count = the_number(first), the_number(count)
     rest, text = begun(path, bindings(rest), files)
     stack = loaded(text, rest, files, features)
+    warn(stack, files)
     check_request(stack.configuration, name, first, count, None)
     return Session(stack, features).run(name, first, count, None), DONE
 
@@ -192,6 +199,7 @@ def run_write(options, words, files, given, features):
     data = bytes(node[:(MOST_SECTORS + 1) * SECTOR])
     stack = loaded(text, rest, files, features)
     count = -(-len(data) // SECTOR)
+    warn(stack, files)
     check_request(stack.configuration, name, first, count, len(data))
     return Session(stack, features).run(name, first, count, data), DONE
 
@@ -237,6 +245,7 @@ def gone_over(options, name, stack, out, files):
     device = looked_up(stack.configuration, name)
     if out is not None:
         check_size(device, out)
+    warn(stack, files)
     if b"map" in options:
         runs, had = with_map(stack, device, out, options[b"map"], files, retries_in(options))
     else:
@@ -289,6 +298,7 @@ def run_cat(options, words, files, _given, features):
     rest, text = begun(path, rest, files)
     stack = loaded(text, rest, files, features)
     device = looked_up(stack.configuration, name)
+    warn(stack, files)
     check_range(device, first, count or 0)
     end = device.sectors if count is None else first + count
     octets = bytearray()
@@ -320,6 +330,7 @@ def run_store(options, words, files, given, features):
     data = bytes(files.image(source, False)) if is_file else given
     stack = loaded(text, rest, files, features)
     device = looked_up(stack.configuration, name)
+    warn(stack, files)
     if is_file and len(data) % SECTOR:
         raise Refused("Length", SUBMISSION_RULES)
     check_store(device, first, len(data) if is_file else None)
@@ -366,7 +377,9 @@ def run_nbd(options, words, files, given, features):
 def run_session(options, words, files, given, features):
     read_cache(options)
     stack = bound(resolved(bindings(words), files), files)
-    return Session(stack, features).serve(given, files.cut_after)
+    outcome = Session(stack, features).serve(given, files.cut_after)
+    warn(stack, files)
+    return outcome
 
 
 def run_version(_options, words, _files, _given, _features):
@@ -411,10 +424,17 @@ def answer(words, given, files, features):
 
 
 def run(words, given, files, features, cuts=()):
-    """The lines on standard output, or the bytes to a client or of a device, and the status.
+    """The lines on standard output, or the bytes to a client or of a device, with the warnings on standard error, and the status.
 
     `files` is as the command leaves it."""
-    files.opened, files.cuts, files.counts, warnings = [], cuts, [], []
+    files.opened, files.cuts, files.counts, files.warnings = [], cuts, [], []
+    outcome, status = outcome_of(words, given, files, features)
+    if isinstance(outcome, Octets):
+        outcome.warnings = files.warnings
+    return Noted(outcome, files.warnings) if isinstance(outcome, list) else outcome, status
+
+
+def outcome_of(words, given, files, features):
     try:
         if not all(map(is_utf8, words)):
             raise Usage
@@ -422,17 +442,17 @@ def run(words, given, files, features, cuts=()):
     except Usage:
         line, status = b"usage", USAGE
     except Stop as stop:
-        line, status, warnings = stop.line, stop.status, stop.warnings
+        line, status = stop.line, stop.status
     except (TextFault, Refused, ImageFault) as refusal:
-        line, status, warnings = refusal.text().encode(), REFUSED, getattr(refusal, "warnings", [])
+        line, status = refusal.text().encode(), REFUSED
     except Fault as fault:
         line, status = fault.text.encode(), FAULT
     name = b"".join(words[:1]).decode("latin-1")
     if name in OUTPUT_IS_DATA and name in features["commands"]:
         return Octets(b"", line), status
     if status != USAGE and b"json" in cut_words(words[1:], name)[0]:
-        return Noted([ending_object(line)], warnings), status
-    return Noted([line], warnings), status
+        return [ending_object(line)], status
+    return [line], status
 
 
 def is_utf8(word):

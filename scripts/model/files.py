@@ -19,7 +19,6 @@ class Stop(Exception):
     def __init__(self, line, status=REFUSED):
         super().__init__(line)
         self.line, self.status = line, status
-        self.warnings = []
 
 
 class Noted(list):
@@ -52,12 +51,12 @@ class Files:
     The other kinds are the words `directory`, `pipe`, `character`. Behind lines of a session files may be cut
     short: `cuts` has the number of lines, a name and a size, and `counts` gets the number of replies before each.
     What is open is kept with the first sector and the number of sectors of the part that is used. `random` draws
-    bytes, where they may be drawn."""
+    bytes, where they may be drawn. `warnings` are the lines that a command prints on standard error while it runs."""
 
     random = None
 
     def __init__(self, nodes):
-        self.nodes, self.opened, self.cuts, self.counts = nodes, [], (), []
+        self.nodes, self.opened, self.cuts, self.counts, self.warnings = nodes, [], (), [], []
 
     def cut_after(self, lines, replies):
         for line, name, size in self.cuts:

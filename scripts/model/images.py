@@ -4,7 +4,7 @@ from uuid import UUID
 
 from charts import chart_lines
 from differences import Stored, compared, longest_runs, run_lines, unlike
-from files import WHOLE, Noted, Stop, not_opened
+from files import WHOLE, Stop, not_opened
 from partitions import lines_of, root_lines, stack_lines, table_facts, table_of, warning_lines
 from pins import Pin, read_pin
 from protection import check_aligned, check_one_size, check_parity_of, compared_parity, found, measured, protect
@@ -241,17 +241,11 @@ def run_partitions(options, words, files, _given, _features):
         root = pin.root
     image = bytes(files.image(path, False))
     table = table_of(image, size)
-    warnings = warning_lines(image, table)
-    try:
-        if root is not None:
-            lines = root_lines(image, table, root, pin, b"writable" in options)
-        elif b"stack" in options:
-            lines = stack_lines(image, table, b"writable" in options)
-        elif b"json" in options:
-            lines = [Json(table_facts(table.partitions, table.copies))]
-        else:
-            lines = lines_of(table.partitions, table.copies)
-    except (Stop, ImageFault) as end:
-        end.warnings = warnings
-        raise
-    return Noted(lines, warnings), DONE
+    files.warnings = warning_lines(image, table)
+    if root is not None:
+        return root_lines(image, table, root, pin, b"writable" in options), DONE
+    if b"stack" in options:
+        return stack_lines(image, table, b"writable" in options), DONE
+    if b"json" in options:
+        return [Json(table_facts(table.partitions, table.copies))], DONE
+    return lines_of(table.partitions, table.copies), DONE

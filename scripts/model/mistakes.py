@@ -224,6 +224,8 @@ LATER = [
      'it.signature_key is not None for it in', 'it.signature_key != b"k" for it in'),
     ("signature_key", "no warning of a signature by a service", "nbd.py",
      'return [*self.stack.configuration.warnings(), *devices', 'return [*devices'),
+    ("signature_key", "no warning of a signature by other commands", "command_line.py",
+     'files.warnings = stack.configuration.warnings()', 'files.warnings = []'),
     ("sector_size", "large unit numbers not divided", "stack.py",
      'return number // target.unit() if LARGE_UNITS in target.options else number',
      'return number'),

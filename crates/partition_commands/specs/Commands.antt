@@ -19,7 +19,8 @@ use Rattle.partition_table.specs.Labels.{name_room}
 use Rattle.partition_commands.specs.Loads.{IsStackUnloadable, Loads, stack_room}
 use Rattle.partition_commands.specs.Parts.{are_within}
 use Rattle.partition_commands.specs.Stacks.{entries_text}
-use Rattle.partition_commands.specs.Warnings.{AreNotes, IsNoted, Notes, warning_text}
+use Rattle.stack_files.specs.Warnings.{IsNoted, Notes}
+use Rattle.partition_commands.specs.Warnings.{AreNotes, warning_text}
 
 -- a text of the table that was found on the device was written, and its warnings among the errors
 pub record PrintsPartitions (old new : Device) (size : SectorSize) (text : PartitionTable → List ℕ) (written now_written : Option (List ℕ)) (notes : Notes) : Type 0 where

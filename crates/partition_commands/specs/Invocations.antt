@@ -16,7 +16,7 @@ use Rattle.partition_commands.specs.Lines.{listed_text}
 use Rattle.partition_commands.specs.Loads.{IsQuiet}
 use Rattle.partition_commands.specs.Objects.{object_text}
 use Rattle.partition_commands.specs.RootCommands.{ArePinnedNotes, IsPinnedEnd, IsRootOfImageEnd, PrintsPinned, PrintsRootOfImage}
-use Rattle.partition_commands.specs.Warnings.{Notes}
+use Rattle.stack_files.specs.Warnings.{Notes}
 
 -- the size of sectors with which a table is looked for first: 4,096 bytes, or 512
 abbrev pub size_of : ℕ → SectorSize

@@ -15,5 +15,4 @@ pub mod RootStacks
 pub mod Roots
 pub mod Signatures
 pub mod Stacks
-pub mod Unchecked
 pub mod Warnings

@@ -11,7 +11,8 @@ use Rattle.partition_commands.specs.declared.fault.PrintFault.{PrintFault}
 use Rattle.partition_commands.specs.declared.fault.PrintFault.TheVariants.{NoMemory, Table, Write}
 use Rattle.partition_table.specs.Labels.{name_room}
 use Rattle.partition_commands.specs.Lines.{listed_text}
-use Rattle.partition_commands.specs.Warnings.{AreNotes, IsNoted, Notes, warning_text}
+use Rattle.stack_files.specs.Warnings.{IsNoted, Notes}
+use Rattle.partition_commands.specs.Warnings.{AreNotes, warning_text}
 
 -- the text of the table that was found on the device was written, and its warnings among the errors
 pub record PrintsTable (old new : Device) (size : SectorSize) (written now_written : Option (List ℕ)) (notes : Notes) : Type 0 where

@@ -41,7 +41,8 @@ use Rattle.partition_commands.specs.Parts.{is_within}
 use Rattle.partition_commands.specs.RootStacks.{is_unfit, root_room, root_stack_text}
 use Rattle.partition_commands.specs.Roots.{image_partitions}
 use Rattle.partition_commands.specs.Signatures.{SeeksSignature, signature_entry}
-use Rattle.partition_commands.specs.Warnings.{IsNoted, Notes, warning_text}
+use Rattle.stack_files.specs.Warnings.{IsNoted, Notes}
+use Rattle.partition_commands.specs.Warnings.{warning_text}
 
 -- both partitions lie inside the device, the superblock was read in the verity partition, it has the values of the pin, if there
 -- is one, and they have the sectors of its data blocks and of its tree

@@ -1,9 +1,7 @@
 -- What is printed among the errors of a table: a line for each thing that is unusual of it.
-use Rattle.std.specs.Prelude.{◌≡◌, ◌⊎◌, ℕ, Bool, true, List, ◌++◌, codes, decimal, Option, if◌then◌else◌}
-use Rattle.std.specs.Io.KnownBytes.{Appends}
+use Rattle.std.specs.Prelude.{◌≡◌, ◌⊎◌, ℕ, List, ◌++◌, codes, decimal, if◌then◌else◌}
 use Rattle.std.specs.List.{flat_map}
 use Rattle.block_device.specs.Device.{Device}
-use Rattle.program_io.specs.Counted.{CountedRecord}
 use Rattle.partition_table.specs.declared.mbr.Mbr.{Mbr}
 use Rattle.partition_table.specs.declared.mbr.Mbr.TheVariants.{Protective, Missing, Foreign, Unread}
 use Rattle.partition_table.specs.declared.partition.Partition.{Partition}
@@ -14,15 +12,8 @@ use Rattle.partition_table.specs.declared.table.Source.TheVariants.{Differ}
 use Rattle.partition_table.specs.declared.warnings.CopyWarnings.{CopyWarnings}
 use Rattle.partition_table.specs.Tables.{IsSizedTable}
 use Rattle.image_files.specs.Partitions.{part_of}
+use Rattle.stack_files.specs.Warnings.{IsNoted, Notes, warning_if, warning_line}
 use Rattle.partition_commands.specs.Parts.{is_within}
-
--- `dmstack: warning: TEXT`
-unfoldable pub warning_line : List ℕ → List ℕ
-warning_line text = codes "dmstack: warning: " ++ (text ++ codes "\n")
-
--- one line if that is unusual
-unfoldable pub warning_if : Bool → List ℕ → List ℕ
-warning_if is text = if is then warning_line text else codes ""
 
 -- of the master boot record
 abbrev pub mbr_warning : Mbr → List ℕ
@@ -73,19 +64,6 @@ abbrev pub warning_text : Device → PartitionTable → List ℕ
 warning_text device table = copies_warnings table ++ end_warnings device table.size table.partitions.items
 
 -- ---- what was printed among the errors
-
--- what had been printed there and is now, and whether the errors' writer failed
-pub record Notes : Type 0 where
-  pub old : Option (List ℕ)
-  pub new : Option (List ℕ)
-  pub failed : Bool
-
-abbrev pub notes_of : {E : Type 0} → (E → Option (List ℕ)) → CountedRecord E → CountedRecord E → Notes
-notes_of contents errors errors' = record { old = contents errors.inner; new = contents errors'.inner; failed = errors'.failed }
-
--- a text was printed, or the writer failed
-abbrev pub IsNoted : Notes → List ℕ → Type 0
-IsNoted notes text = Appends notes.old notes.new text ⊎ (notes.failed ≡ true)
 
 -- a table was found on a device, and its warnings were printed
 pub record FindsNoted (old new : Device) (size : SectorSize) (notes : Notes) (table : PartitionTable) : Type 0 where

@@ -6,7 +6,7 @@ ghost use Rattle.partition_commands.specs.Lines.{listed_text};
 ghost use Rattle.partition_commands.specs.Loads.{EndsQuiet, IsStackEnd, SaysLoadable, stack_room};
 ghost use Rattle.partition_commands.specs.Objects.{object_text};
 ghost use Rattle.partition_commands.specs.Stacks.{partition_entry, stack_text};
-ghost use Rattle.partition_commands.specs.Warnings.{notes_of};
+ghost use Rattle.stack_files.specs.Warnings.{notes_of};
 
 use crate::loading::say_loadable;
 use crate::object::table_line;

@@ -1,7 +1,7 @@
 //! The command `partitions` by its words.
 ghost use Rattle.std.specs.Prelude.{◌≡◌, OnOk, IfErr};
 ghost use Rattle.partition_commands.specs.Invocations.{EndsFormQuiet, FailsToList, ListsByWords, size_of};
-ghost use Rattle.partition_commands.specs.Warnings.{notes_of};
+ghost use Rattle.stack_files.specs.Warnings.{notes_of};
 
 use crate::StackPlan;
 use crate::fault::PartitionsFault;

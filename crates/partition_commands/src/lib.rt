@@ -21,7 +21,6 @@ mod root_stack;
 mod root_types;
 mod signature_types;
 mod signatures;
-mod unchecked;
 mod usr_types;
 mod warnings;
 
@@ -37,4 +36,3 @@ pub use print::print_partitions;
 pub use refusal::{PartitionRefusal, say_refusal};
 pub use root::ImagePartitions;
 pub use root_stack::{pinned_stack_of_image, root_stack_of_image};
-pub use unchecked::note_unchecked;

@@ -4,7 +4,7 @@ ghost use Rattle.partition_table.specs.Reads.{IsReadAtMost};
 ghost use Rattle.partition_table.specs.Tables.{found_reads};
 ghost use Rattle.partition_commands.specs.Lines.{SaysTable, SaysText, partition_lines};
 ghost use Rattle.partition_commands.specs.Prints.{FailsNoted, IsPrintEnd, IsSayEnd, PrintsTableOf};
-ghost use Rattle.partition_commands.specs.Warnings.{notes_of};
+ghost use Rattle.stack_files.specs.Warnings.{notes_of};
 
 use crate::PrintFault;
 use crate::line::{say_partition, say_source};

@@ -8,7 +8,7 @@ ghost use Rattle.partition_commands.specs.Commands.{EndsNoted, NotesImage};
 ghost use Rattle.partition_commands.specs.Loads.{EndsQuiet, IsRefusedRoom};
 ghost use Rattle.partition_commands.specs.RootCommands.{FailsToFindPinned, FailsToFindRoot, IsFitting, IsPairEnd, IsPartSuperEnd, IsRootTextEnd, NotesPinned, PrintsPinnedOf, PrintsRootOf, SaysRoot, unpinned_refusal};
 ghost use Rattle.partition_commands.specs.RootStacks.{is_unfit, root_room, root_stack_text};
-ghost use Rattle.partition_commands.specs.Warnings.{notes_of};
+ghost use Rattle.stack_files.specs.Warnings.{notes_of};
 
 use crate::entries::push_root;
 use crate::loading::say_loadable;

@@ -3,7 +3,8 @@ ghost use Rattle.std.specs.Prelude.{◌≡◌, IfErr, IfOk, OnErr};
 ghost use Rattle.partition_table.specs.Reads.{IsReadAtMost};
 ghost use Rattle.partition_table.specs.Tables.{IsNoSizedTable, found_reads};
 ghost use Rattle.program_io.specs.Counted.{Writes};
-ghost use Rattle.partition_commands.specs.Warnings.{FindsNoted, backup_sector_warning, backup_warnings, copies_warnings, differ_warning, end_line, end_warning, end_warnings, mbr_warning, notes_of, primary_warnings, sector_warning, warning_if, warning_line, warning_text};
+ghost use Rattle.stack_files.specs.Warnings.{notes_of};
+ghost use Rattle.partition_commands.specs.Warnings.{FindsNoted, backup_sector_warning, backup_warnings, copies_warnings, differ_warning, end_line, end_warning, end_warnings, mbr_warning, primary_warnings, sector_warning, warning_text};
 
 use crate::parts::is_within;
 use block_device::BlockDev;
@@ -12,6 +13,7 @@ use partition_table::{
     CopyWarnings, Mbr, NoTable, Partition, PartitionTable, SectorSize, Source, find_table,
 };
 use program_io::{Counted, WriteFault};
+use stack_files::{say_if, say_warning};
 use std::alloc::Global;
 use std::io::Write;
 
@@ -142,30 +144,6 @@ fn say_sector<W: Write>(
     } else {
         say_if(writer, warnings.alternate, elsewhere)
     }
-}
-
-#[tactic(auto, unfolding(crate::specs::Warnings::warning_if))]
-pub(crate) fn say_if<W: Write>(
-    writer: &mut Counted<W>,
-    is: bool,
-    text: &[u8],
-) -> Result<(), WriteFault>
-    ensures { Writes W.contents writer.old writer.new (warning_if is text.now) result }
-{
-    if is {
-        say_warning(writer, text)
-    } else {
-        writer.put(b"")
-    }
-}
-
-#[tactic(auto, unfolding(crate::specs::Warnings::warning_line))]
-fn say_warning<W: Write>(writer: &mut Counted<W>, text: &[u8]) -> Result<(), WriteFault>
-    ensures { Writes W.contents writer.old writer.new (warning_line text.now) result }
-{
-    writer.put(b"dmstack: warning: ")?;
-    writer.put(text)?;
-    writer.put(b"\n")
 }
 
 // Of each partition that ends past the end of the device.

@@ -17,7 +17,9 @@ use Rattle.rescue_map.specs.declared.kind.MapKind.TheVariants as map_kind
 use Rattle.stack_rules.specs.Names.{mapped, size}
 use Rattle.stack_engine.specs.Stacks.{StackRecord}
 use Rattle.stack_files.specs.DeviceSources.{FailsToFindSourceOutput, FindsSourceOutput, SourceWords, of_disk, of_stack, source_words}
-use Rattle.stack_files.specs.NamedDevices.{DevicePlace}
+use Rattle.stack_files.specs.NamedDevices.{DevicePlace, device_place}
+use Rattle.stack_files.specs.Unchecked.{NotesStack}
+use Rattle.stack_files.specs.Warnings.{Notes}
 use Rattle.stack_files.specs.declared.device_source.DeviceSource.{DeviceSource}
 use Rattle.scan_commands.specs.declared.pass_counts.PassCounts.{PassCounts}
 use Rattle.stack_recovery.specs.Listings.{Listed}
@@ -157,6 +159,20 @@ IsCopyUnbegun w words fault = IsMapUnusedBeside w (map_plan words.map map_kind.C
 abbrev pub IsCopyEnd : {S D : Type 0} → Calls S D → CopyWords → Option (List ℕ) → Option (List ℕ) → Bool → RecoveringFault → Type 0
 IsCopyEnd w words old new failed fault =
     ((new ≡ old) × IsCopyUnbegun w words fault) ⊎ IsUnreported (StopsCopy w words) (Copies w words) Lines old new failed fault
+
+-- the stack that is copied, beside the map's file
+pub record LoadsCopied {S D : Type 0} (w : Calls S D) (words : CopyWords) (stack : StackRecord) : Type 0 where
+  pub d : ℕ
+  pub image : OpenImage D
+  pub used : FileUse
+  pub first : S
+  pub between : S
+  pub map_used : UsesMapBeside (record w { new = first }) (map_plan words.map map_kind.Copy words.retries) words.out used
+  pub found : FindsSourceOutput (record w { old = first; new = between }) used (words_beside used words.words) words.out (device_place stack d) image
+
+-- what is printed among the errors of that stack
+abbrev pub NotesCopy : {S D : Type 0} → Calls S D → CopyWords → Notes → Type 0
+NotesCopy w words = NotesStack (LoadsCopied w words) ((fault : RecoveringFault) × IsCopyUnbegun w words fault)
 
 -- ---- in terms of the arguments of a call
 

@@ -11,7 +11,9 @@ use Rattle.scan_commands.specs.CountedPasses.{CountsPass}
 use Rattle.scan_commands.specs.Passes.{Moving, StopsPass, moving, retried_of}
 use Rattle.rescue_map.specs.declared.kind.MapKind.TheVariants as map_kind
 use Rattle.stack_files.specs.DeviceSources.{FailsToFindSource, FindsSource, SourceWords, source_words}
-use Rattle.stack_files.specs.NamedDevices.{DevicePlace}
+use Rattle.stack_files.specs.NamedDevices.{DevicePlace, device_place}
+use Rattle.stack_files.specs.Unchecked.{NotesStack}
+use Rattle.stack_files.specs.Warnings.{Notes}
 use Rattle.stack_engine.specs.Stacks.{StackRecord}
 use Rattle.stack_files.specs.declared.device_source.DeviceSource.{DeviceSource}
 use Rattle.stack_recovery.specs.declared.discard.Discard.{Discard}
@@ -86,6 +88,19 @@ IsScanUnbegun w words fault = IsPassEnd (IsMapUnused w (map_plan words.map map_k
 abbrev pub IsScanEnd : {S D : Type 0} → Calls S D → ScanWords → Option (List ℕ) → Option (List ℕ) → Bool → RecoveringFault → Type 0
 IsScanEnd w words old new failed fault =
     ((new ≡ old) × IsScanUnbegun w words fault) ⊎ IsUnreported (StopsScan w words) (Scans w words) words.form old new failed fault
+
+-- the stack that is scanned, beside the map's file
+pub record LoadsScanned {S D : Type 0} (w : Calls S D) (words : ScanWords) (stack : StackRecord) : Type 0 where
+  pub d : ℕ
+  pub used : FileUse
+  pub first : S
+  pub between : S
+  pub map_used : UsesMap (record w { new = first }) (map_plan words.map map_kind.Scan words.retries) used
+  pub found : FindsSource (record w { old = first; new = between }) used words.words (device_place stack d)
+
+-- what is printed among the errors of that stack
+abbrev pub NotesScan : {S D : Type 0} → Calls S D → ScanWords → Notes → Type 0
+NotesScan w words = NotesStack (LoadsScanned w words) ((fault : RecoveringFault) × IsScanUnbegun w words fault)
 
 -- ---- in terms of the arguments of a call, for an open device
 

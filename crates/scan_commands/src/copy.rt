@@ -2,7 +2,8 @@
 ghost use Rattle.std.specs.Prelude.{OnOk, IfOk, IfErr};
 ghost use Rattle.image_files.specs.Opener.{calls};
 ghost use Rattle.scan_commands.specs.Passes.{CanPass};
-ghost use Rattle.scan_commands.specs.Copies.{CopiesBy, EndsCopyingBy, IsCopyEnd, PassesToBy, PrintsCopy, StopsToBy, words_to_copy};
+ghost use Rattle.stack_files.specs.Warnings.{notes_of};
+ghost use Rattle.scan_commands.specs.Copies.{CopiesBy, EndsCopyingBy, IsCopyEnd, NotesCopy, PassesToBy, PrintsCopy, StopsToBy, words_to_copy};
 ghost use Rattle.scan_commands.specs.Counting.{EndsPrintedBy, PrintedBy};
 
 use crate::map_file::map_at;
@@ -18,7 +19,7 @@ use device_adapters::{Differing, Progress};
 use image_files::{Images, OpenImage};
 use program_io::Counted;
 use rescue_map::MapKind;
-use stack_files::DeviceSource;
+use stack_files::{DeviceSource, ErrorOutput, note_unchecked};
 use std::alloc::Global;
 use std::io::Write;
 
@@ -40,6 +41,8 @@ pub struct CopyPlan<'a> {
 /// scan's map counts no sector as read: the image has none of the sectors that it marks `+`. If the map file is there, the image
 /// isn't made as long as a disk.
 ///
+/// A warning among the errors says that no signature is checked, if a line names the key of one.
+///
 /// # Errors
 ///
 /// - `Stack` if there is no such device, or a file can't be opened.
@@ -47,21 +50,24 @@ pub struct CopyPlan<'a> {
 /// - `Pass` if the copy ended early.
 /// - `Lost` if sectors are lost; the copy was completed.
 /// - `Write` if a line can't be written; the copy was completed.
-pub fn copy_device<'a, I: Images, W: Write, P: Progress>(
+pub fn copy_device<'a, I: Images, W: Write, E: Write, P: Progress>(
     alloc: Global,
     images: &mut I,
     source: DeviceSource<'a, '_>,
     plan: CopyPlan<'a>,
     writer: &mut Counted<W>,
-    progress: &mut P,
+    output: ErrorOutput<'_, E, P>,
 ) -> Result<(), RecoveringFault<'a>>
     ensures ok { OnOk result (PrintedBy W.contents writer.old writer.new (PrintsCopy (calls I.relations I.Dev.state images.old images.new) (words_to_copy source.entry plan.entry))) }
     ensures err { IfErr result (EndsPrintedBy W.contents writer.old writer.new (IsCopyEnd (calls I.relations I.Dev.state images.old images.new) (words_to_copy source.entry plan.entry))) }
+    ensures noted { NotesCopy (calls I.relations I.Dev.state images.old images.new) (words_to_copy source.entry plan.entry) (notes_of E.contents output.entry.errors.now output.exit.0.now) }
 {
+    let ErrorOutput { errors, progress } = output;
     let map = map_plan(plan.map, MapKind::Copy, plan.retries);
     let used = use_map_beside(images, map, plan.out)?;
     let read = source_beside(used, source);
     let (stack, device, image) = open_with_room(alloc, images, used, read, plan.out)?;
+    note_unchecked(errors, stack.config());
     let OpenImage { device: out, id: _ } = image;
     let retries = plan.retries;
     let no_scrape = plan.no_scrape;

@@ -3,7 +3,8 @@ ghost use Rattle.std.specs.Prelude.{OnOk, IfErr};
 ghost use Rattle.image_files.specs.Opener.{calls};
 ghost use Rattle.scan_commands.specs.Passes.{CanPass};
 ghost use Rattle.scan_commands.specs.Counting.{EndsPrintedBy, PrintedBy};
-ghost use Rattle.scan_commands.specs.Scans.{EndsReporting, IsScanEnd, PrintsScan, ReportsScan, words_to_scan};
+ghost use Rattle.scan_commands.specs.Scans.{EndsReporting, IsScanEnd, NotesScan, PrintsScan, ReportsScan, words_to_scan};
+ghost use Rattle.stack_files.specs.Warnings.{notes_of};
 
 use crate::chart::tell_chart;
 use crate::map_file::map_at;
@@ -18,7 +19,7 @@ use device_adapters::Progress;
 use image_files::Images;
 use program_io::Counted;
 use rescue_map::MapKind;
-use stack_files::{DeviceSource, open_source};
+use stack_files::{DeviceSource, ErrorOutput, note_unchecked, open_source};
 use stack_recovery::{Discard, KeptRuns};
 use std::alloc::Global;
 use std::io::Write;
@@ -34,7 +35,8 @@ pub struct ScanPlan<'a> {
 }
 
 /// Reads a device of a stack file over the bindings, or a disk, and reports which sectors are lost. With a map file, only sectors that the
-/// map doesn't mark as read are read, and the map file is kept as a scan's map.
+/// map doesn't mark as read are read, and the map file is kept as a scan's map. A warning among the errors says that no signature is
+/// checked, if a line names the key of one.
 ///
 /// # Errors
 ///
@@ -43,19 +45,22 @@ pub struct ScanPlan<'a> {
 /// - `Pass` if the scan ended early.
 /// - `Lost` or `LostAsSaid` if sectors are lost; the scan was completed.
 /// - `Write` if a line can't be written; the scan was completed.
-pub fn scan_device<'a, I: Images, W: Write, P: Progress>(
+pub fn scan_device<'a, I: Images, W: Write, E: Write, P: Progress>(
     alloc: Global,
     images: &mut I,
     source: DeviceSource<'a, '_>,
     plan: ScanPlan<'a>,
     writer: &mut Counted<W>,
-    progress: &mut P,
+    output: ErrorOutput<'_, E, P>,
 ) -> Result<(), RecoveringFault<'a>>
     ensures ok { OnOk result (PrintedBy W.contents writer.old writer.new (PrintsScan (calls I.relations I.Dev.state images.old images.new) (words_to_scan source.entry plan.entry))) }
     ensures err { IfErr result (EndsPrintedBy W.contents writer.old writer.new (IsScanEnd (calls I.relations I.Dev.state images.old images.new) (words_to_scan source.entry plan.entry))) }
+    ensures noted { NotesScan (calls I.relations I.Dev.state images.old images.new) (words_to_scan source.entry plan.entry) (notes_of E.contents output.entry.errors.now output.exit.0.now) }
 {
+    let ErrorOutput { errors, progress } = output;
     let used = use_map(images, map_plan(plan.map, MapKind::Scan, plan.retries))?;
     let (stack, device) = open_source(alloc, images, used, source)?;
+    note_unchecked(errors, stack.config());
     let out = Discard::new(stack.config().sectors(device));
     let retries = plan.retries;
     let no_scrape = plan.no_scrape;

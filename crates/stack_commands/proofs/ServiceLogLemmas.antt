@@ -8,7 +8,7 @@ use Rattle.nbd_server.specs.declared.known_faults.ExportFault.{ExportFault}
 use Rattle.program_io.specs.Counted.{CountedRecord, Writes}
 use Rattle.stack_rules.specs.Records.{Configuration}
 use Rattle.program_io.specs.declared.fault.WriteFault.{WriteFault}
-use Rattle.partition_commands.specs.Warnings.{IsNoted, notes_of}
+use Rattle.stack_files.specs.Warnings.{IsNoted, notes_of}
 use Rattle.stack_commands.specs.ServiceLog.{IsNotedUnless, IsWarned}
 use Rattle.stack_commands.proofs.EndingLemmas.{still-failed, written-or}
 

@@ -15,7 +15,7 @@ use Rattle.command_parser.specs.CommandLines.{line_said, line_with}
 use Rattle.command_line.specs.FormatOptions.{OptionTexts}
 use Rattle.manual_pages.specs.MessageLines.{message_line}
 use Rattle.manual_pages.specs.UsageErrors.{explanation}
-use Rattle.partition_commands.specs.Warnings.{Notes}
+use Rattle.stack_files.specs.Warnings.{Notes}
 use Rattle.stack_commands.specs.messages.Commands.{ending_message}
 use Rattle.stack_commands.specs.Resolutions.{EndsEarly, SucceedsResolved}
 use Rattle.stack_commands.specs.Uses.{IsUsageEnd, Uses}

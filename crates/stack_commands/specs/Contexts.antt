@@ -38,22 +38,25 @@ use Rattle.command_line.specs.words.Verify.{verify_record}
 use Rattle.command_line.specs.words.Write.{write_record}
 use Rattle.image_files.specs.Opener.{Calls, Opener, calls}
 use Rattle.image_commands.specs.declared.tree_source.SoughtTree.{SoughtTree}
-use Rattle.partition_commands.specs.Warnings.{Notes}
+use Rattle.stack_files.specs.Warnings.{Notes}
 use Rattle.repair_commands.specs.declared.pair.RepairPlaces.{RepairPlaces}
 use Rattle.repair_commands.specs.ByParity.{RepairsByParity}
 use Rattle.repair_commands.specs.Commands.{IsRepairEnd, RepairsFiles}
 use Rattle.repair_commands.specs.Pairs.{places_of}
 use Rattle.transfer_commands.specs.Requests.{read_request, write_request}
-use Rattle.transfer_commands.specs.Writes.{PutWords, put_words}
+use Rattle.transfer_commands.specs.Writes.{NotesPut, PutWords, put_words}
+use Rattle.scan_commands.specs.Copies.{NotesCopy}
+use Rattle.scan_commands.specs.Scans.{NotesScan}
 use Rattle.scan_commands.specs.DeviceLines.{load_text}
 use Rattle.stack_files.specs.declared.stack_file.StackFile.{StackFile}
 use Rattle.stack_files.specs.OpenStacks.{stack_words}
+use Rattle.stack_files.specs.StacksOfTexts.{NotesFile}
 use Rattle.stack_rules.specs.Records.{Configuration}
 use Rattle.stack_commands.specs.declared.context.Context.{Context}
 use Rattle.stack_commands.specs.declared.fault.CommandFault.{CommandFault}
 use Rattle.stack_commands.specs.Diffing.{ComparesImages, IsComparingEnd}
 use Rattle.stack_commands.specs.Endings.{IsEnd, IsEndAs, IsSilent}
-use Rattle.stack_commands.specs.Invocations.{CatsSectors, CopiesSectors, IsCatCommandEnd, IsCopyWordsEnd, IsLoadWordsEnd, IsPageEnd, IsReadWordsEnd, IsScanWordsEnd, IsWriteWordsEnd, ListsDevices, PrintsPage, ReadsDevice, ScansSectors, WritesDevice}
+use Rattle.stack_commands.specs.Invocations.{CatNotes, CatsSectors, CopiesSectors, IsCatCommandEnd, IsCopyWordsEnd, IsLoadWordsEnd, IsPageEnd, IsReadWordsEnd, IsScanWordsEnd, IsWriteWordsEnd, ListsDevices, PrintsPage, ReadNotes, ReadsDevice, ScansSectors, WritesDevice, copied, scanned, written_words}
 use Rattle.stack_commands.specs.Repairing.{IsParityWordsEnd, IsRepairWordsEnd, RepairsImage}
 use Rattle.stack_commands.specs.StackCommands.{IsListEnd, IsReadEnd, IsWriteEnd, PrintsDevices, PrintsReply, PrintsWritten}
 use Rattle.stack_commands.specs.Updating.{IsUpdateWordsEnd, UpdatesImage}
@@ -96,11 +99,17 @@ module _ {S D T E : Type 0} (relations : Opener S D) (state : D → Device) (con
   abbrev pub EndsRead : ReadWords → CommandFault → Type 0
   EndsRead words = IsReadWordsEnd desk_calls (read_record words) desk_before desk_behind desk_failed
 
+  abbrev pub NotesOfRead : ReadWords → Notes → Type 0
+  NotesOfRead words = ReadNotes desk_calls (read_record words)
+
   abbrev pub DoesWrite : WriteWords → Type 0
   DoesWrite words = WritesDevice desk_calls (write_record words) desk_before desk_behind
 
   abbrev pub EndsWrite : WriteWords → CommandFault → Type 0
   EndsWrite words = IsWriteWordsEnd desk_calls (write_record words) desk_before desk_behind desk_failed
+
+  abbrev pub NotesOfWrite : WriteWords → Notes → Type 0
+  NotesOfWrite words = NotesPut desk_calls (written_words (write_record words))
 
   abbrev pub DoesCat : CatWords → Type 0
   DoesCat words = CatsSectors desk_calls (cat_record words) desk_before desk_behind
@@ -108,17 +117,26 @@ module _ {S D T E : Type 0} (relations : Opener S D) (state : D → Device) (con
   abbrev pub EndsCat : CatWords → CommandFault → Type 0
   EndsCat words = IsCatCommandEnd desk_calls (cat_record words) desk_before desk_behind desk_failed
 
+  abbrev pub NotesOfCat : CatWords → Notes → Type 0
+  NotesOfCat words = CatNotes desk_calls (cat_record words)
+
   abbrev pub DoesScan : ScanWords → Type 0
   DoesScan words = ScansSectors desk_calls (scan_record words) desk_before desk_behind
 
   abbrev pub EndsScan : ScanWords → CommandFault → Type 0
   EndsScan words = IsScanWordsEnd desk_calls (scan_record words) desk_before desk_behind desk_failed
 
+  abbrev pub NotesOfScan : ScanWords → Notes → Type 0
+  NotesOfScan words = NotesScan desk_calls (scanned (scan_record words))
+
   abbrev pub DoesCopy : CopyWords → Type 0
   DoesCopy words = CopiesSectors desk_calls (copy_record words) desk_before desk_behind
 
   abbrev pub EndsCopy : CopyWords → CommandFault → Type 0
   EndsCopy words = IsCopyWordsEnd desk_calls (copy_record words) desk_before desk_behind desk_failed
+
+  abbrev pub NotesOfCopy : CopyWords → Notes → Type 0
+  NotesOfCopy words = NotesCopy desk_calls (copied (copy_record words))
 
   abbrev pub DoesVerify : VerifyWords → Type 0
   DoesVerify words = ChecksImage desk_calls (verify_record words) desk_before desk_behind
@@ -190,11 +208,17 @@ module _ {S D T E : Type 0} (relations : Opener S D) (state : D → Device) (con
   abbrev pub EndsReading : StackFile → ℕ → Sectors → CommandFault → Type 0
   EndsReading file cache sectors = IsReadEnd desk_calls (stack_words file) cache (read_request sectors) desk_failed
 
+  abbrev pub NotesOfFile : StackFile → ℕ → Notes → Type 0
+  NotesOfFile file cache = NotesFile desk_calls (stack_words file) cache
+
   abbrev pub WritesFile : StackFile → ℕ → Transfer → Type 0
   WritesFile file cache transfer = PrintsWritten desk_calls (transfer_words file cache transfer) desk_before desk_behind
 
   abbrev pub EndsWriting : StackFile → ℕ → Transfer → CommandFault → Type 0
   EndsWriting file cache transfer = IsWriteEnd desk_calls (transfer_words file cache transfer) desk_failed
+
+  abbrev pub NotesOfWriting : StackFile → ℕ → Transfer → Notes → Type 0
+  NotesOfWriting file cache transfer = NotesPut desk_calls (transfer_words file cache transfer)
 
 -- nothing is written ahead of what ends a command, unless it is the writing that fails
 abbrev pub IsSilentOn : {S T E : Type 0} → (T → Option (List ℕ)) → Context S T E → ContextLeft S T → CommandFault → Type 0

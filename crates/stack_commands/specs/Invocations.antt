@@ -26,22 +26,23 @@ use Rattle.assemble_commands.specs.Ends.{IsAssembleEnd}
 use Rattle.find_commands.specs.Commands.{FindsInPlace, IsFindEnd}
 use Rattle.partition_commands.specs.declared.fault.PartitionsFault.{PartitionsFault}
 use Rattle.partition_commands.specs.Invocations.{IsFormQuiet, IsListingEnd, ListsPartitions}
-use Rattle.partition_commands.specs.Warnings.{Notes}
+use Rattle.stack_files.specs.Warnings.{Notes}
 use Rattle.stack_commands.specs.declared.fault.CommandFault.{CommandFault}
 use Rattle.stack_commands.specs.declared.fault.CommandFault.TheVariants.{Fec, Partitions, Usage}
 use Rattle.stack_commands.specs.Diffing.{ComparesImages, IsComparingEnd}
 use Rattle.stack_commands.specs.Endings.{IsSilent, IsReplyUnwritten}
-use Rattle.transfer_commands.specs.Writes.{PutWords, put_words}
+use Rattle.transfer_commands.specs.Writes.{NotesPut, PutWords, put_words}
 use Rattle.request_queue.specs.Requests.{a_read, a_write}
 use Rattle.nbd_server.specs.declared.session_end.SessionEnd.{SessionEnd}
-use Rattle.scan_commands.specs.Copies.{CopyWords, IsCopyEnd, PrintsCopy, copy_words}
-use Rattle.scan_commands.specs.Scans.{IsScanEnd, PrintsScan, ScanWords, scan_words}
-use Rattle.stack_files.specs.NamedDevices.{DeviceWords}
-use Rattle.transfer_commands.specs.StoredFiles.{FileWords, IsFileEnd, PrintsFileStored, file_words}
+use Rattle.scan_commands.specs.Copies.{CopyWords, IsCopyEnd, NotesCopy, PrintsCopy, copy_words}
+use Rattle.scan_commands.specs.Scans.{IsScanEnd, NotesScan, PrintsScan, ScanWords, scan_words}
+use Rattle.stack_files.specs.NamedDevices.{NotesDevice}
+use Rattle.stack_files.specs.StacksOfTexts.{NotesFile}
+use Rattle.transfer_commands.specs.StoredFiles.{FileWords, IsFileEnd, NotesTarget, PrintsFileStored, file_words}
 use Rattle.transfer_commands.specs.Streaming.{IsBytesEnd, IsStoringEnd, PrintsBytes, PrintsStored}
 use Rattle.stack_commands.specs.ManyExports.{IsExportsEnd, ServesExports}
 use Rattle.stack_commands.specs.ServiceLog.{Exchange, exchange}
-use Rattle.stack_commands.specs.StackCommands.{IsClientEnd, IsListEnd, IsReadEnd, IsServeEnd, IsWriteEnd, PrintsDevices, PrintsReply, PrintsWritten, ServesClient, ServesSession, ServesWell, device_on, on, source_on}
+use Rattle.stack_commands.specs.StackCommands.{IsClientEnd, IsListEnd, IsReadEnd, IsServeEnd, IsWriteEnd, NotesLeft, PrintsDevices, PrintsReply, PrintsWritten, ServesClient, ServesSession, ServesWell, device_on, on, source_on}
 use Rattle.verity_commands.specs.Formatting.{FormatsAt, IsSaidFormatEnd}
 use Rattle.verity_commands.specs.Placed.{DumpsAt, IsDumpEnd, IsTableEnd, PrintsEntry}
 use Rattle.verity_commands.specs.Trees.{IsTableTreeEnd, PrintsTreeEntry}
@@ -78,6 +79,10 @@ ReadsDevice w r old new = PrintsReply w (on r.stack r.bindings) r.cache (a_read 
 abbrev pub IsReadWordsEnd : {S D : Type 0} → Calls S D → ReadRecord → Option (List ℕ) → Option (List ℕ) → Bool → CommandFault → Type 0
 IsReadWordsEnd w r old new failed fault = IsReadEnd w (on r.stack r.bindings) r.cache (a_read r.name r.first r.count) failed fault × IsSilent fault old new
 
+-- what is printed among the errors of the stack that is read
+abbrev pub ReadNotes : {S D : Type 0} → Calls S D → ReadRecord → Notes → Type 0
+ReadNotes w r = NotesFile w (on r.stack r.bindings) r.cache
+
 abbrev pub written_words : WriteRecord → PutWords
 written_words t = put_words (on t.stack t.bindings) t.cache t.source (a_write t.name t.first)
 
@@ -95,6 +100,10 @@ ServesInputLines w s old new = ServesSession w s.cache s.bindings old new (Ok tt
 abbrev pub IsSessionWordsEnd : {S D : Type 0} → Calls S D → SessionRecord → Streams → Streams → Bool → CommandFault → Type 0
 IsSessionWordsEnd w s old new failed fault = IsServeEnd w s.cache s.bindings old new failed fault
 
+-- what is printed among the errors of the stack that is left
+abbrev pub SessionNotes : {S D : Type 0} → Calls S D → SessionRecord → Streams → Streams → Notes → Type 0
+SessionNotes w s old new = NotesLeft w s.cache s.bindings old new
+
 abbrev pub ServesNamedDevice : {S D : Type 0} → Calls S D → NbdRecord → Exchange → Type 0
 ServesNamedDevice w n x = ServesWell (λ log. (end : SessionEnd) × ServesClient w (device_on n.stack n.name n.cache n.bindings) x log (Ok end) (Ok tt))
 
@@ -108,6 +117,10 @@ CatsSectors w c old new = PrintsBytes w (device_on c.stack c.name c.cache c.bind
 
 abbrev pub IsCatCommandEnd : {S D : Type 0} → Calls S D → CatRecord → Option (List ℕ) → Option (List ℕ) → Bool → CommandFault → Type 0
 IsCatCommandEnd w c old new failed fault = IsStreamEnd (IsBytesEnd w (device_on c.stack c.name c.cache c.bindings) c.first c.count old new failed) fault
+
+-- what is printed among the errors of the stack whose bytes are written
+abbrev pub CatNotes : {S D : Type 0} → Calls S D → CatRecord → Notes → Type 0
+CatNotes w c = NotesDevice w (device_on c.stack c.name c.cache c.bindings)
 
 -- the source `-` is the input; another one is a file, and nothing is read of the input then
 abbrev pub BySource : StoreRecord → Type 0 → Type 0 → Type 0
@@ -125,6 +138,10 @@ abbrev pub IsStoreCommandEnd : {S D : Type 0} → Calls S D → StoreRecord → 
 IsStoreCommandEnd w s old new failed fault = BySource s
     (IsStreamEnd (IsStoringEnd w (device_on s.stack s.name s.cache s.bindings) s.first old new failed) fault)
     ((new.input ≡ old.input) × IsStreamEnd (IsFileEnd w (stored_words s) old.output new.output failed) fault)
+
+-- what is printed among the errors of the stack that is written to
+abbrev pub StoreNotes : {S D : Type 0} → Calls S D → StoreRecord → Notes → Type 0
+StoreNotes w s notes = BySource s (NotesDevice w (device_on s.stack s.name s.cache s.bindings) notes) (NotesTarget w (stored_words s) notes)
 
 -- ---- a whole device
 
@@ -236,11 +253,18 @@ FailsCommand texts (table_fec t) u failed fault = IsFecEnd (IsTableFecEnd texts 
 FailsCommand texts (manual command) u failed fault = IsPageEnd command u.old.output u.new.output failed fault × (u.images.new ≡ u.images.old)
 FailsCommand texts version u failed fault = IsReplyUnwritten failed fault × (u.images.new ≡ u.images.old)
 
--- while it runs, a command prints nothing among the errors, but `load` that no signature is checked, `partitions` the warnings of
--- its table and `nbd` lines on its service, of which their rows speak
-abbrev pub AreCommandNotes : InvocationRecord → Notes → Type 0
-AreCommandNotes (load l) notes = Unit {0}
-AreCommandNotes (partitions p) notes = Unit {0}
-AreCommandNotes (nbd n) notes = Unit {0}
-AreCommandNotes (exports e) notes = Unit {0}
-AreCommandNotes invocation notes = notes.new ≡ notes.old
+-- while it runs, a command on a stack prints among the errors only that no signature is checked, `partitions` the warnings of its table,
+-- `nbd` lines on its service, and every other command nothing; the rows of `load`, `partitions` and `nbd` speak of what these print
+abbrev pub AreCommandNotes : {S D T G : Type 0} → InvocationRecord → Uses S D T G → Type 0
+AreCommandNotes (load l) u = Unit {0}
+AreCommandNotes (partitions p) u = Unit {0}
+AreCommandNotes (nbd n) u = Unit {0}
+AreCommandNotes (exports e) u = Unit {0}
+AreCommandNotes (read r) u = ReadNotes u.images r u.notes
+AreCommandNotes (write t) u = NotesPut u.images (written_words t) u.notes
+AreCommandNotes (session s) u = SessionNotes u.images s u.old u.new u.notes
+AreCommandNotes (scan s) u = NotesScan u.images (scanned s) u.notes
+AreCommandNotes (copy c) u = NotesCopy u.images (copied c) u.notes
+AreCommandNotes (cat c) u = CatNotes u.images c u.notes
+AreCommandNotes (store s) u = StoreNotes u.images s u.notes
+AreCommandNotes invocation u = u.notes.new ≡ u.notes.old

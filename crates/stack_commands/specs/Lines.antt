@@ -8,7 +8,7 @@ use Rattle.command_line.specs.Invocations.{invocation_record}
 use Rattle.command_parser.specs.declared.parser.CommandLine.{CommandLine}
 use Rattle.image_commands.specs.Drawing.{Drawing}
 use Rattle.image_files.specs.Opener.{Calls, Opener, calls}
-use Rattle.partition_commands.specs.Warnings.{Notes}
+use Rattle.stack_files.specs.Warnings.{Notes}
 use Rattle.stack_commands.specs.declared.command_end.CommandEnd.{CommandEnd}
 use Rattle.stack_commands.specs.declared.fault.CommandFault.{CommandFault}
 use Rattle.stack_commands.specs.Commands.{IsCommandDone, IsRunEnd, object_asked}
@@ -42,9 +42,9 @@ module _ {S D G F R T : Type 0} (relations : Opener S D) (state : D → Device) 
   abbrev pub EndsLine : CommandLine → CommandFault → Type 0
   EndsLine line = FailsCommand (option_texts line.options) (invocation_record line.invocation) all_used writer'.failed
 
--- what the command of a line prints among the errors
-abbrev pub NotesLine : CommandLine → Notes → Type 0
-NotesLine line notes = AreCommandNotes (invocation_record line.invocation) notes
+  -- what their command prints among the errors while it runs
+  abbrev pub NotesLine : CommandLine → Type 0
+  NotesLine line = AreCommandNotes (invocation_record line.invocation) all_used
 
 -- the line's command with the partitions that its bindings name as parts of their disks, and its options
 pub record IsLineResolved {S D : Type 0} (w : Calls S D) (line resolved : CommandLine) : Type 0 where

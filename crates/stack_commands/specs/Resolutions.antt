@@ -31,7 +31,7 @@ pub record SucceedsResolved {S D T G : Type 0} (texts : OptionTexts) (invocation
   pub resolved : InvocationRecord
   pub resolves : Resolves (record u.images { new = between }) invocation resolved
   pub succeeds : Succeeds texts resolved (after_lookups u between)
-  pub noted : AreCommandNotes resolved u.notes
+  pub noted : AreCommandNotes resolved (after_lookups u between)
 
 -- a partition wasn't found: nothing is read or written
 pub record FailsAtLookup {S D T G : Type 0} (invocation : InvocationRecord) (u : Uses S D T G) (fault : CommandFault) : Type 0 where
@@ -45,7 +45,7 @@ pub record FailsResolved {S D T G : Type 0} (texts : OptionTexts) (invocation : 
   pub resolved : InvocationRecord
   pub resolves : Resolves (record u.images { new = between }) invocation resolved
   pub fails : FailsCommand texts resolved (after_lookups u between) failed fault
-  pub noted : AreCommandNotes resolved u.notes
+  pub noted : AreCommandNotes resolved (after_lookups u between)
 
 -- one of these
 abbrev pub EndsEarly : {S D T G : Type 0} → OptionTexts → InvocationRecord → Uses S D T G → Bool → CommandFault → Type 0

@@ -18,17 +18,21 @@ use Rattle.command_line.specs.words.Session.{session_record}
 use Rattle.command_line.specs.words.Store.{store_record}
 use Rattle.image_files.specs.Opener.{Calls, Opener, calls}
 use Rattle.nbd_server.specs.declared.session_end.SessionEnd.{SessionEnd}
-use Rattle.partition_commands.specs.Warnings.{notes_of}
+use Rattle.stack_files.specs.Warnings.{Notes, notes_of}
 use Rattle.stack_files.specs.NamedDevices.{DeviceWords}
 use Rattle.stack_commands.specs.declared.client.Client.{Client}
 use Rattle.stack_commands.specs.declared.fault.CommandFault.{CommandFault}
-use Rattle.stack_commands.specs.Invocations.{IsExportsWordsEnd, IsNbdWordsEnd, IsSessionWordsEnd, IsStoreCommandEnd, ServesDevices, ServesInputLines, ServesNamedDevice, StoresSectors}
+use Rattle.stack_commands.specs.Invocations.{IsExportsWordsEnd, IsNbdWordsEnd, IsSessionWordsEnd, IsStoreCommandEnd, ServesDevices, ServesInputLines, ServesNamedDevice, SessionNotes, StoreNotes, StoresSectors}
 use Rattle.stack_commands.specs.ManyExports.{IsExportsEnd, ServesExports}
 use Rattle.stack_commands.specs.ServiceLog.{Exchange, JournalRecord, exchange}
-use Rattle.stack_commands.specs.StackCommands.{IsClientEnd, IsServeEnd, ServesClient, ServesSession, ServesWell, device_on, on}
+use Rattle.stack_commands.specs.StackCommands.{IsClientEnd, ServesClient, ServesWell, device_on, on}
 
 abbrev served_device : ServedDevice → List Binding → DeviceWords
 served_device device bindings = device_on device.stack.now device.name.now device.cache (map binding_record bindings)
+
+-- what is printed among the errors of the stack that is written to
+abbrev pub NotesOfStore : {S D : Type 0} → Opener S D → (D → Device) → S → S → StoreWords → Notes → Type 0
+NotesOfStore relations state old new words = StoreNotes (calls relations state old new) (store_record words)
 
 module _ {S D R T : Type 0} (relations : Opener S D) (state : D → Device) (remaining : R → Option (List ℕ)) (contents : T → Option (List ℕ))
     (images images' : S) (reader reader' : CountedRecord R) (writer writer' : CountedRecord T) where
@@ -54,12 +58,8 @@ module _ {S D R T : Type 0} (relations : Opener S D) (state : D → Device) (rem
   abbrev pub EndsSession : SessionWords → CommandFault → Type 0
   EndsSession words = IsSessionWordsEnd served_calls (session_record words) served_before served_behind writer'.failed
 
-  -- the lines of the input
-  abbrev pub ServesInput : ℕ → List Binding → Type 0
-  ServesInput cache bindings = ServesSession served_calls cache (map binding_record bindings) served_before served_behind (Ok tt) (Ok tt)
-
-  abbrev pub EndsLines : ℕ → List Binding → CommandFault → Type 0
-  EndsLines cache bindings = IsServeEnd served_calls cache (map binding_record bindings) served_before served_behind writer'.failed
+  abbrev pub NotesOfInput : SessionWords → Notes → Type 0
+  NotesOfInput words = SessionNotes served_calls (session_record words) served_before served_behind
 
 -- ---- with a client, lent by who runs the command
 

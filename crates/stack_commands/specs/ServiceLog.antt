@@ -18,8 +18,8 @@ use Rattle.nbd_server.specs.declared.session_end.SessionEnd.TheVariants as sessi
 use Rattle.nbd_server.specs.declared.session_log.SessionLog.{SessionLog}
 use Rattle.nbd_server.specs.declared.tally.Tally.{Tally}
 use Rattle.linux_rules.specs.Signatures.{has_signature}
-use Rattle.partition_commands.specs.Unchecked.{unchecked_text}
-use Rattle.partition_commands.specs.Warnings.{IsNoted, Notes}
+use Rattle.stack_files.specs.Unchecked.{unchecked_text}
+use Rattle.stack_files.specs.Warnings.{IsNoted, Notes}
 use Rattle.program_io.specs.Streams.{Streams}
 use Rattle.request_queue.specs.World.{World}
 

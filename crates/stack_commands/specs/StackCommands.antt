@@ -5,8 +5,8 @@ use Rattle.image_files.specs.Opener.{Calls}
 use Rattle.stack_rules.specs.Records.{Configuration}
 use Rattle.linux_rules.specs.declared.refusal.LinuxFault.{LinuxFault}
 use Rattle.linux_rules.specs.Rules.{IsChecked, linux_refusal}
-use Rattle.partition_commands.specs.Unchecked.{unchecked_text}
-use Rattle.partition_commands.specs.Warnings.{IsNoted, Notes}
+use Rattle.stack_files.specs.Unchecked.{NotesStack, unchecked_text}
+use Rattle.stack_files.specs.Warnings.{IsNoted, Notes}
 use Rattle.stack_engine.specs.Pieces.{stack_keeping}
 use Rattle.stack_engine.specs.Stacks.{StackRecord}
 use Rattle.stack_meaning.specs.declared.fault.IoFault.{IoFault}
@@ -142,6 +142,20 @@ pub record ServesSession {S D : Type 0} (w : Calls S D) (cache : ℕ) (bindings 
   pub stands : StandsOnLeaves (record w { new = between }) bindings cache stack
   pub served : IsQueueSession (new_world stack) last old new outcome
   pub back : GivesBack (record w { old = between }) bindings last.stack.leaves synced
+
+-- the stack that the lines of the input left
+pub record LeavesStack {S D : Type 0} (w : Calls S D) (cache : ℕ) (bindings : List BindingRecord) (old new : Streams) (stack : StackRecord) : Type 0 where
+  pub first : StackRecord
+  pub last : World
+  pub between : S
+  pub outcome : Result Unit SessionFault
+  pub stands : StandsOnLeaves (record w { new = between }) bindings cache first
+  pub served : IsQueueSession (new_world first) last old new outcome
+  pub is : stack ≡ last.stack
+
+-- what is printed among the errors of that stack
+abbrev pub NotesLeft : {S D : Type 0} → Calls S D → ℕ → List BindingRecord → Streams → Streams → Notes → Type 0
+NotesLeft w cache bindings old new = NotesStack (LeavesStack w cache bindings old new) ((fault : StackFault) × FailsToStand w bindings fault)
 
 -- A session ends early: nothing was served, as an image isn't opened or the leaves aren't taken; or by the session's
 -- own fault, as a failure of the writer; or all was served, and then an image isn't synced.

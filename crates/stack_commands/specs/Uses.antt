@@ -9,7 +9,7 @@ use Rattle.stack_commands.specs.declared.fault.CommandFault.TheVariants.{NoMemor
 use Rattle.program_io.specs.Streams.{Streams}
 use Rattle.image_commands.specs.Drawing.{Drawing}
 use Rattle.image_files.specs.Opener.{Calls}
-use Rattle.partition_commands.specs.Warnings.{Notes}
+use Rattle.stack_files.specs.Warnings.{Notes}
 use Rattle.scan_commands.specs.declared.recovering_fault.RecoveringFault.{RecoveringFault}
 use Rattle.transfer_commands.specs.declared.request_fault.RequestFault.{RequestFault}
 use Rattle.stack_files.specs.declared.stack_fault.StackFault.{StackFault}

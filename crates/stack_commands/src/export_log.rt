@@ -3,7 +3,7 @@ ghost use Rattle.std.specs.Prelude.{◌≡◌, ◌≤◌, codes, length};
 ghost use Rattle.hex.specs.Hex.{encode_lower};
 ghost use Rattle.nbd_protocol.specs.Exports.{export_record, export_records};
 ghost use Rattle.nbd_server.specs.FaultLines.{IsPrinted};
-ghost use Rattle.partition_commands.specs.Warnings.{notes_of};
+ghost use Rattle.stack_files.specs.Warnings.{notes_of};
 ghost use Rattle.program_io.specs.Counted.{Writes};
 ghost use Rattle.stack_rules.specs.Names.{lines_of};
 ghost use Rattle.stack_commands.specs.ServiceLog.{IsWarned, export_facts, export_line, export_words, exports_text, named_facts, only_root, rights_text, root_end, root_facts, root_words, start_text, target_root};
@@ -11,9 +11,9 @@ ghost use Rattle.stack_commands.specs.ServiceLog.{IsWarned, export_facts, export
 use dm_table::{Line, Target};
 use linux_rules::has_signature;
 use nbd_protocol::Export;
-use partition_commands::note_unchecked;
 use program_io::{Counted, WriteFault};
 use stack_config::{Config, DevId};
+use stack_files::note_unchecked;
 use std::io::Write;
 use tree_shape::Digest;
 

@@ -2,7 +2,7 @@
 ghost use Rattle.std.specs.Prelude.{false, ◌≡◌, OnOk, IfErr};
 ghost use Rattle.image_commands.specs.Drawing.{drawing};
 ghost use Rattle.stack_commands.specs.Contexts.{EndsPage, ShowsPage};
-ghost use Rattle.partition_commands.specs.Warnings.{notes_of};
+ghost use Rattle.stack_files.specs.Warnings.{notes_of};
 ghost use Rattle.stack_commands.specs.Lines.{DoesLine, EndsLine, NotesLine};
 ghost use Rattle.stack_commands.specs.ServiceLog.{journal_record};
 
@@ -34,6 +34,7 @@ use manual_pages::{page_of, print_page, print_version};
 use nbd_server::Journal;
 use partition_commands::invoke_partitions;
 use program_io::Counted;
+use stack_files::ErrorOutput;
 use std::alloc::Global;
 use std::io::{Read, Write};
 use verity_commands::{invoke_dump, invoke_format, invoke_table, invoke_table_tree};
@@ -63,7 +64,7 @@ pub fn invoke<
     requires writer { writer.old.failed ≡ false }
     ensures ok { OnOk result (DoesLine I.relations I.Dev.state S.remaining W.contents images.old images.new (drawing G.gives G.Generator.stream generators.old generators.new) reader.old reader.new writer.old writer.new (notes_of E.contents errors.old errors.new) (journal_record G.priorities G.shows generators.old) line.entry) }
     ensures err { IfErr result (EndsLine I.relations I.Dev.state S.remaining W.contents images.old images.new (drawing G.gives G.Generator.stream generators.old generators.new) reader.old reader.new writer.old writer.new (notes_of E.contents errors.old errors.new) (journal_record G.priorities G.shows generators.old) line.entry) }
-    ensures noted { NotesLine line.entry (notes_of E.contents errors.old errors.new) }
+    ensures noted { NotesLine I.relations I.Dev.state S.remaining W.contents images.old images.new (drawing G.gives G.Generator.stream generators.old generators.new) reader.old reader.new writer.old writer.new (notes_of E.contents errors.old errors.new) (journal_record G.priorities G.shows generators.old) line.entry }
 {
     let CommandLine {
         invocation,
@@ -71,9 +72,11 @@ pub fn invoke<
     } = line;
     match invocation {
         Invocation::Load(words) => { invoke_load(alloc, Context { images, writer }, words, errors) }
-        Invocation::Read(words) => invoke_read(alloc, Context { images, writer }, words),
-        Invocation::Write(words) => invoke_write(alloc, Context { images, writer }, words),
-        Invocation::Session(words) => invoke_session(alloc, images, words, reader, writer),
+        Invocation::Read(words) => invoke_read(alloc, Context { images, writer }, words, errors),
+        Invocation::Write(words) => invoke_write(alloc, Context { images, writer }, words, errors),
+        Invocation::Session(words) => {
+            invoke_session(alloc, images, words, reader, writer, errors)
+        }
         Invocation::Nbd(words) => {
             let client = Client {
                 reader,
@@ -94,20 +97,22 @@ pub fn invoke<
             };
             invoke_exports(alloc, images, words, client)
         }
-        Invocation::Scan(words) => invoke_scan(
-            alloc,
-            Context { images, writer },
-            words,
-            generators,
-        ),
-        Invocation::Copy(words) => invoke_copy(
-            alloc,
-            Context { images, writer },
-            words,
-            generators,
-        ),
-        Invocation::Cat(words) => invoke_cat(alloc, Context { images, writer }, words, generators),
-        Invocation::Store(words) => invoke_store(alloc, images, words, reader, writer, generators),
+        Invocation::Scan(words) => {
+            invoke_scan(alloc, Context { images, writer }, words, errors, generators)
+        }
+        Invocation::Copy(words) => {
+            invoke_copy(alloc, Context { images, writer }, words, errors, generators)
+        }
+        Invocation::Cat(words) => {
+            invoke_cat(alloc, Context { images, writer }, words, errors, generators)
+        }
+        Invocation::Store(words) => {
+            let output = ErrorOutput {
+                errors,
+                progress: generators,
+            };
+            invoke_store(alloc, images, words, reader, writer, output)
+        }
         Invocation::Format(words) => {
             Ok(invoke_format(alloc, images, generators, &words, &options, writer)?)
         }

@@ -1,7 +1,7 @@
 //! The command `load`: checks a stack, and says what its devices are.
 ghost use Rattle.std.specs.Prelude.{◌⊎◌, map, IfErr, OnOk};
 ghost use Rattle.command_line.specs.Bindings.{binding_record};
-ghost use Rattle.partition_commands.specs.Warnings.{notes_of};
+ghost use Rattle.stack_files.specs.Warnings.{notes_of};
 ghost use Rattle.stack_commands.specs.Endings.{IsSilent, IsReplyUnwritten};
 ghost use Rattle.stack_commands.specs.Contexts.{DoesLoad, EndsListing, EndsLoad, IsSilentOn, ListsFile, PrintsConfiguration};
 ghost use Rattle.stack_commands.specs.StackCommands.{IsCheckedIf, IsObjectUnmade};
@@ -12,11 +12,10 @@ use crate::words::stack_file;
 use command_line::{Binding, ListForm, LoadWords};
 use image_files::Images;
 use linux_rules::{LinuxFault, check_linux};
-use partition_commands::note_unchecked;
 use program_io::Counted;
 use scan_commands::{devices_line, say_devices, say_tree};
 use stack_config::Config;
-use stack_files::{StackFile, open_configuration};
+use stack_files::{StackFile, note_unchecked, open_configuration};
 use std::alloc::Global;
 use std::io::Write;
 

@@ -4,7 +4,7 @@ ghost use Rattle.program_io.specs.Streams.{streams};
 ghost use Rattle.command_line.specs.FormatOptions.{text_of};
 ghost use Rattle.image_commands.specs.Drawing.{drawing};
 ghost use Rattle.image_files.specs.Opener.{calls};
-ghost use Rattle.partition_commands.specs.Warnings.{notes_of};
+ghost use Rattle.stack_files.specs.Warnings.{notes_of};
 ghost use Rattle.stack_commands.specs.Commands.{EndsCommand, ExplainsEnd, ExplainsUsage, IsCommandDone, IsRepeated, is_usage, misuse_of, object_asked, output_is_data, said_message, told_to, writes_data};
 ghost use Rattle.stack_commands.specs.Contexts.{IsToldAs};
 ghost use Rattle.stack_commands.specs.Lines.{DoesWords, EndsUnresolved, EndsWords, ResolvesLine};
@@ -39,7 +39,7 @@ const UNPRINTED: u8 = 1;
 ///
 /// All that is opened is opened by `images`. Why `cat` and `nbd` end early goes to `errors`, since what they write is
 /// data for another program; so do the explanation of a usage error, beside `usage`, the sentence on any other end, and the
-/// warnings of the table that `partitions` finds.
+/// warnings of the table that `partitions` finds, or of a stack.
 /// If the writer fails, `errors` gets the reason of every other command, too.
 pub fn command<
     I: Images,

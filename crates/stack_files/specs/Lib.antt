@@ -14,3 +14,5 @@ pub mod NamedDevices
 pub mod Resolving
 pub mod StacksOfTexts
 pub mod StacksApart
+pub mod Unchecked
+pub mod Warnings

@@ -18,6 +18,8 @@ use Rattle.stack_files.specs.declared.stack_fault.StackFault.TheVariants.{NoSuch
 use Rattle.stack_files.specs.Configuration.{configuration_of}
 use Rattle.stack_files.specs.Endings.{IsOpeningEnd}
 use Rattle.stack_files.specs.StacksOfTexts.{FailsToLoad, IsStackOf}
+use Rattle.stack_files.specs.Unchecked.{NotesStack}
+use Rattle.stack_files.specs.Warnings.{Notes}
 use Rattle.stack_rules.specs.declared.lower.DevId.{DevId}
 
 -- a mapped device of a stack
@@ -82,6 +84,16 @@ FindsDevice w words at = FindsApart w no_use words at
 
 abbrev pub FailsToFindDevice : {S D : Type 0} → Calls S D → DeviceWords → StackFault → Type 0
 FailsToFindDevice w words fault = FailsToFindApart w no_use words fault
+
+-- all files were opened, and the stack has such a device
+pub record LoadsNamed {S D : Type 0} (w : Calls S D) (words : DeviceWords) (stack : StackRecord) : Type 0 where
+  pub d : ℕ
+  pub between : S
+  pub found : FindsDevice (record w { new = between }) words (device_place stack d)
+
+-- what is printed among the errors of its stack
+abbrev pub NotesDevice : {S D : Type 0} → Calls S D → DeviceWords → Notes → Type 0
+NotesDevice w words = NotesStack (LoadsNamed w words) ((fault : StackFault) × FailsToFindDevice w words fault)
 
 -- all files and the image to copy to were opened, and there is such a device
 pub record FindsOutput {S D : Type 0} (w : Calls S D) (used : FileUse) (words : DeviceWords) (out : List ℕ) (at : DevicePlace) (image : OpenImage D) : Type 0 where

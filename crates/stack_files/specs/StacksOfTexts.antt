@@ -13,6 +13,8 @@ use Rattle.stack_files.specs.declared.stack_fault.StackFault.{StackFault}
 use Rattle.stack_files.specs.Configuration.{IsRefusal, configuration_of}
 use Rattle.stack_files.specs.Endings.{IsOpeningEnd}
 use Rattle.stack_files.specs.StacksApart.{FailsToOpenApart, OpensStackApart}
+use Rattle.stack_files.specs.Unchecked.{NotesStack}
+use Rattle.stack_files.specs.Warnings.{Notes}
 
 -- the stack of the configuration that the text makes of the open backing devices, with an empty cache for so many hash blocks
 pub record IsStackOf {D : Type 0} (state : D → Device) (over : OpenStack D) (cache : ℕ) (stack : StackRecord) : Type 0 where
@@ -46,6 +48,10 @@ FailsBehind {S} {D} w words Fails fault =
 abbrev pub FailsToLoadFile : {S D : Type 0} → Calls S D → StackWords → StackFault → Type 0
 FailsToLoadFile w words fault = FailsBehind w words FailsToLoad fault
 
+-- what is printed among the errors of a stack file's stack
+abbrev pub NotesFile : {S D : Type 0} → Calls S D → StackWords → ℕ → Notes → Type 0
+NotesFile w words cache = NotesStack (Loads w words cache) ((fault : StackFault) × FailsToLoadFile w words fault)
+
 -- ---- in terms of the opener, before and after its calls, and the program's arguments
 
 -- the configuration that the text makes
@@ -59,3 +65,7 @@ LoadsBy relations state old new file cache = Loads (calls relations state old ne
 -- the text makes no configuration or stack
 abbrev pub FailsLoading : {S D : Type 0} → Opener S D → (D → Device) → S → S → StackFile → StackFault → Type 0
 FailsLoading relations state old new file = FailsToLoadFile (calls relations state old new) (stack_words file)
+
+-- what is printed among the errors of it
+abbrev pub NotesFileBy : {S D : Type 0} → Opener S D → (D → Device) → S → S → StackFile → ℕ → Notes → Type 0
+NotesFileBy relations state old new file cache = NotesFile (calls relations state old new) (stack_words file) cache

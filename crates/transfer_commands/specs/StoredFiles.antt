@@ -21,7 +21,9 @@ use Rattle.stack_files.specs.declared.stack_fault.StackFault.{StackFault}
 use Rattle.stack_files.specs.declared.stack_fault.StackFault.TheVariants.{Open}
 use Rattle.stack_files.specs.Closings.{IsGivenBack}
 use Rattle.stack_files.specs.Endings.{IsOpeningEnd}
-use Rattle.stack_files.specs.NamedDevices.{DeviceWords, FailsToFind, HasDevice, DevicePlace}
+use Rattle.stack_files.specs.NamedDevices.{DeviceWords, FailsToFind, HasDevice, DevicePlace, device_place}
+use Rattle.stack_files.specs.Unchecked.{NotesStack}
+use Rattle.stack_files.specs.Warnings.{Notes}
 
 -- a stack file, the name of one of its devices, bindings, the source, and the first sector to be written
 pub record FileWords : Type 0 where
@@ -114,6 +116,18 @@ IsUnstored w words fault =
 abbrev pub IsFileEnd : {S D : Type 0} → Calls S D → FileWords → Option (List ℕ) → Option (List ℕ) → Bool → StreamFault → Type 0
 IsFileEnd w words old new failed fault =
     ((new ≡ old) × IsStackless (IsUnstored w words) fault) ⊎ (FailsToStoreFile w words old new fault ⊎ ((n : ℕ) × StoresFile w words n × IsStreamUnwritten failed fault))
+
+-- the stack that SOURCE is written to
+pub record LoadsTarget {S D : Type 0} (w : Calls S D) (words : FileWords) (stack : StackRecord) : Type 0 where
+  pub d : ℕ
+  pub image : OpenImage D
+  pub part : Bool
+  pub between : S
+  pub found : FindsTarget (record w { new = between }) words (device_place stack d) image part
+
+-- what is printed among the errors of that stack
+abbrev pub NotesTarget : {S D : Type 0} → Calls S D → FileWords → Notes → Type 0
+NotesTarget w words = NotesStack (LoadsTarget w words) ((fault : StackFault) × IsUnstored w words fault)
 
 -- ---- in terms of the arguments of a call
 

@@ -13,6 +13,8 @@ use Rattle.stack_files.specs.declared.stack_fault.StackFault.{StackFault}
 use Rattle.stack_files.specs.Closings.{GivesBack}
 use Rattle.stack_files.specs.Endings.{IsOpeningEnd}
 use Rattle.stack_files.specs.StacksOfTexts.{FailsToLoad, IsStackOf}
+use Rattle.stack_files.specs.Unchecked.{NotesStack}
+use Rattle.stack_files.specs.Warnings.{Notes}
 use Rattle.request_queue.specs.declared.reply.Reply.{Reply}
 use Rattle.request_queue.specs.Requests.{RequestRecord}
 use Rattle.request_queue.specs.World.{World}
@@ -81,6 +83,18 @@ IsUnsyncedBehind Done fault = ⊥
 abbrev pub IsPutEnd : {S D : Type 0} → Calls S D → PutWords → RequestFault → Type 0
 IsPutEnd w words fault = IsRequestStackless (FailsToLoadSource w words) fault ⊎ (FailsToPut w words fault ⊎ IsUnsyncedBehind (PutsBack w words) fault)
 
+-- the source and the stack that the bytes are written to
+pub record LoadsSource {S D : Type 0} (w : Calls S D) (words : PutWords) (stack : StackRecord) : Type 0 where
+  pub over : OpenStack D
+  pub source : FileText
+  pub between : S
+  pub opened : OpensSource (record w { new = between }) words.words words.source over source
+  pub made : IsStackOf w.state over words.cache stack
+
+-- what is printed among the errors of that stack
+abbrev pub NotesPut : {S D : Type 0} → Calls S D → PutWords → Notes → Type 0
+NotesPut w words = NotesStack (LoadsSource w words) ((fault : StackFault) × FailsToLoadSource w words fault)
+
 -- ---- in terms of the opener, before and after its calls, and of the program's arguments
 
 -- the write of the source's bytes to a transfer's destination
@@ -94,3 +108,7 @@ PutsBy relations state old new file cache transfer = PutsBack (calls relations s
 -- the source's bytes weren't written and synced
 abbrev pub UnputBy : {S D : Type 0} → Opener S D → (D → Device) → S → S → StackFile → ℕ → Transfer → RequestFault → Type 0
 UnputBy relations state old new file cache transfer = IsPutEnd (calls relations state old new) (words_to_put file cache transfer)
+
+-- what is printed among the errors
+abbrev pub NotesPutBy : {S D : Type 0} → Opener S D → (D → Device) → S → S → PutWords → Notes → Type 0
+NotesPutBy relations state old new words = NotesPut (calls relations state old new) words

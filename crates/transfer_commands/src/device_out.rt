@@ -1,7 +1,9 @@
 //! Writes the bytes of a stack file's device to a writer, and nothing else.
 ghost use Rattle.std.specs.Prelude.{◌≡◌, OnOk, IfErr};
 ghost use Rattle.image_files.specs.Opener.{calls};
-ghost use Rattle.transfer_commands.specs.Streaming.{EndsPrinting, IsWantedEnd, Printing, PrintsWanted, count_from};
+ghost use Rattle.stack_files.specs.NamedDevices.{NotesDevice};
+ghost use Rattle.stack_files.specs.Warnings.{notes_of};
+ghost use Rattle.transfer_commands.specs.Streaming.{EndsPrinting, IsWantedEnd, Printing, PrintsWanted, count_from, wanted_words};
 
 use crate::output::{SectorRange, cat};
 use crate::stream_fault::StreamFault;
@@ -9,7 +11,7 @@ use block_device::BlockDev;
 use device_adapters::Progress;
 use image_files::{Images, no_use};
 use program_io::Counted;
-use stack_files::{NamedDevice, StackFile, open_device_apart};
+use stack_files::{ErrorOutput, NamedDevice, StackFile, note_unchecked, open_device_apart};
 use std::alloc::Global;
 use std::io::Write;
 
@@ -31,22 +33,24 @@ fn count_from(count: Option<u64>, first: u64, sectors: u64) -> u64
     }
 }
 
-/// Writes the bytes of the sectors to the writer.
+/// Writes the bytes of the sectors to the writer. A warning among the errors says that no signature is checked, if a line names the
+/// key of one.
 ///
 /// # Errors
 ///
 /// - `Stack` if there is no such device, or a file can't be opened.
 /// - `Cat` if not all sectors were written.
-pub fn cat_device<'a, I: Images, W: Write, P: Progress>(
+pub fn cat_device<'a, I: Images, W: Write, E: Write, P: Progress>(
     alloc: Global,
     images: &mut I,
     file: StackFile<'a, '_>,
     wanted: Wanted<'a>,
     writer: &mut Counted<W>,
-    progress: &mut P,
+    output: ErrorOutput<'_, E, P>,
 ) -> Result<(), StreamFault<'a>>
     ensures ok { OnOk result (Printing W.contents writer.old writer.new (PrintsWanted (calls I.relations I.Dev.state images.old images.new) file.entry wanted.entry)) }
     ensures err { IfErr result (EndsPrinting W.contents writer.old writer.new (IsWantedEnd (calls I.relations I.Dev.state images.old images.new) file.entry wanted.entry)) }
+    ensures noted { NotesDevice (calls I.relations I.Dev.state images.old images.new) (wanted_words file.entry wanted.entry) (notes_of E.contents output.entry.errors.now output.exit.0.now) }
 {
     let Wanted {
         name,
@@ -54,8 +58,10 @@ pub fn cat_device<'a, I: Images, W: Write, P: Progress>(
         count,
         cache,
     } = wanted;
+    let ErrorOutput { errors, progress } = output;
     let device = NamedDevice { name, cache };
     let (mut stack, device) = open_device_apart(alloc, images, no_use(), file, device)?;
+    note_unchecked(errors, stack.config());
     let count = count_from(count, first, stack.config().sectors(device));
     let range = SectorRange { first, count };
     match cat(&mut stack, device, range, writer, progress) {

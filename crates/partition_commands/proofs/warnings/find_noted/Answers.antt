@@ -1,4 +1,4 @@
-use Rattle.partition_commands.proofs.NoteLemmas.{done-or-failed}
+use Rattle.stack_files.proofs.lemmas.NoteLemmas.{done-or-failed}
 use Rattle.partition_commands.proofs.warnings.find_noted.Goals as goal
 
 pub returns-clause-ok : goal.returns-clause-ok

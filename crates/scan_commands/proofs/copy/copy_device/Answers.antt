@@ -84,3 +84,42 @@ returns-in-Ok-clause-err g c = IfErr-weaker c.tell_counts.result _ _ (λ fault e
   };
   ends = ends;
 }))) c.tell_counts.ensures.err
+
+-- ---- what is printed among the errors
+
+pub returns-in_err-used-clause-noted : goal.returns-in_err-used-clause-noted
+returns-in_err-used-clause-noted g c = inr ((c.in_err-used.field-0.0, inl (rw c.map_plan-map.ensures at c.in_err-used.ensures.err)), refl)
+
+pub returns-in_err-stack-clause-noted : goal.returns-in_err-stack-clause-noted
+returns-in_err-stack-clause-noted g c =
+    inr ((c.in_err-stack.field-0.0, inr (record { used = c.in_ok-used.used; first = c.use_map_beside.new.images; map_used = rw c.map_plan-map.ensures at c.in_ok-used.ensures.ok; fails = rw c.source_beside-read.ensures at c.in_err-stack.ensures.err })), refl)
+
+pub returns-in-Ok-clause-noted : goal.returns-in-Ok-clause-noted
+returns-in-Ok-clause-noted g c = inl (
+  c.in_ok-stack.stack,
+  record {
+    d = c.in_ok-stack.device.0;
+    image = c.in_ok-stack.image;
+    used = c.in_ok-used.used;
+    first = c.use_map_beside.new.images;
+    between = c.open_with_room.new.images;
+    map_used = rw c.map_plan-map.ensures at c.in_ok-used.ensures.ok;
+    found = rw c.source_beside-read.ensures at c.in_ok-stack.ensures.ok;
+  },
+  rw c.config.ensures.value at c.note_unchecked.ensures.noted,
+)
+
+pub returns-clause-noted : goal.returns-clause-noted
+returns-clause-noted g c = inl (
+  c.in_ok-stack.stack,
+  record {
+    d = c.in_ok-stack.device.0;
+    image = c.in_ok-stack.image;
+    used = c.in_ok-used.used;
+    first = c.use_map_beside.new.images;
+    between = c.open_with_room.new.images;
+    map_used = rw c.map_plan-map.ensures at c.in_ok-used.ensures.ok;
+    found = rw c.source_beside-read.ensures at c.in_ok-stack.ensures.ok;
+  },
+  rw c.config.ensures.value at c.note_unchecked.ensures.noted,
+)

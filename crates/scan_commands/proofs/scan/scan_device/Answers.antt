@@ -12,12 +12,12 @@ use Rattle.scan_commands.proofs.scan.scan_device.Goals as goal
 pub new-out-requires : goal.new-out-requires
 new-out-requires g c =
     let config : Configuration = c.in_ok-stack.stack.config in
-    let is = c.sectors.ensures ∙ ap (λ (x : Configuration). size x (mapped c.in_ok-stack.device.0)) c.config.ensures.value in
-    omega (arith, is, size-most config c.config.ensures.sound.loaded (mapped c.in_ok-stack.device.0))
+    let is = c.sectors.ensures ∙ ap (λ (x : Configuration). size x (mapped c.in_ok-stack.device.0)) c.config-2.ensures.value in
+    omega (arith, is, size-most config c.config-2.ensures.sound.loaded (mapped c.in_ok-stack.device.0))
 
 pub report_scan-requires : goal.report_scan-requires
 report_scan-requires g c =
-    let is = c.sectors.ensures ∙ ap (λ (x : Configuration). size x (mapped c.in_ok-stack.device.0)) c.config.ensures.value in
+    let is = c.sectors.ensures ∙ ap (λ (x : Configuration). size x (mapped c.in_ok-stack.device.0)) c.config-2.ensures.value in
     record {
       device = c.in_ok-stack.ensures.there;
       room = omega (arith, is, c.new-out.ensures.size);
@@ -75,3 +75,26 @@ returns-clause-err g c = IfErr-weaker c.report_scan.result _ _ (λ fault ends. i
       passed = passed;
     })
     ends)) c.report_scan.ensures.err
+
+-- ---- what is printed among the errors
+
+pub returns-in_err-used-clause-noted : goal.returns-in_err-used-clause-noted
+returns-in_err-used-clause-noted g c = inr ((Pass c.in_err-used.field-0.0, inl (rw c.map_plan.ensures at c.in_err-used.ensures.err)), refl)
+
+pub returns-in_err-stack-clause-noted : goal.returns-in_err-stack-clause-noted
+returns-in_err-stack-clause-noted g c =
+    inr ((Stack c.in_err-stack.field-0.0, inr (record { used = c.in_ok-used.used; first = c.use_map.new.images; map_used = rw c.map_plan.ensures at c.in_ok-used.ensures.ok; fails = c.in_err-stack.ensures.err })), refl)
+
+pub returns-clause-noted : goal.returns-clause-noted
+returns-clause-noted g c = inl (
+  c.in_ok-stack.stack,
+  record {
+    d = c.in_ok-stack.device.0;
+    used = c.in_ok-used.used;
+    first = c.use_map.new.images;
+    between = c.open_source.new.images;
+    map_used = rw c.map_plan.ensures at c.in_ok-used.ensures.ok;
+    found = c.in_ok-stack.ensures.ok;
+  },
+  rw c.config.ensures.value at c.note_unchecked.ensures.noted,
+)

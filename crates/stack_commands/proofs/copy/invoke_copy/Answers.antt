@@ -8,3 +8,9 @@ returns-in_err-copy_device-clause-err g c =
 
 pub returns-clause-ok : goal.returns-clause-ok
 returns-clause-ok g c = rw c.device_source-read.ensures at c.in_ok-copy_device.ensures.ok
+
+pub returns-in_err-copy_device-clause-noted : goal.returns-in_err-copy_device-clause-noted
+returns-in_err-copy_device-clause-noted g c = rw c.device_source-read.ensures at c.in_err-copy_device.ensures.noted
+
+pub returns-clause-noted : goal.returns-clause-noted
+returns-clause-noted g c = rw c.device_source-read.ensures at c.in_ok-copy_device.ensures.noted

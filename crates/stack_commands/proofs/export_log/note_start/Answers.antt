@@ -1,5 +1,5 @@
 use Rattle.nbd_protocol.specs.Exports.{export_records}
-use Rattle.partition_commands.specs.Unchecked.{unchecked_text}
+use Rattle.stack_files.specs.Unchecked.{unchecked_text}
 use Rattle.stack_commands.specs.ServiceLog.{exports_text, start_text}
 use Rattle.stack_commands.proofs.ServiceLogLemmas.{printed-or, printed-then}
 use Rattle.stack_commands.proofs.export_log.note_start.Goals as goal

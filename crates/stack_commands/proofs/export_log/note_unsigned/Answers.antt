@@ -1,6 +1,6 @@
 use Rattle.std.proofs.Common.{◌∙◌, Bool, refl, subst, sym}
-use Rattle.partition_commands.specs.Unchecked.{unchecked_text}
-use Rattle.partition_commands.specs.Warnings.{notes_of}
+use Rattle.stack_files.specs.Unchecked.{unchecked_text}
+use Rattle.stack_files.specs.Warnings.{notes_of}
 use Rattle.stack_commands.specs.ServiceLog.{IsWarnedIf}
 use Rattle.stack_commands.proofs.export_log.note_unsigned.Goals as goal
 

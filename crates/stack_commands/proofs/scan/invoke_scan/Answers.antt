@@ -8,3 +8,9 @@ returns-in_err-scan_device-clause-err g c =
 
 pub returns-clause-ok : goal.returns-clause-ok
 returns-clause-ok g c = rw c.device_source-read.ensures at c.in_ok-scan_device.ensures.ok
+
+pub returns-in_err-scan_device-clause-noted : goal.returns-in_err-scan_device-clause-noted
+returns-in_err-scan_device-clause-noted g c = rw c.device_source-read.ensures at c.in_err-scan_device.ensures.noted
+
+pub returns-clause-noted : goal.returns-clause-noted
+returns-clause-noted g c = rw c.device_source-read.ensures at c.in_ok-scan_device.ensures.noted

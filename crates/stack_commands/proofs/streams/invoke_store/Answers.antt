@@ -15,3 +15,12 @@ pub returns-in_err-store_file-clause-err : goal.returns-in_err-store_file-clause
 returns-in_err-store_file-clause-err g c =
     err-from c.from_residual-in_err-store_file.result _ (Stream c.in_err-store_file.field-0.0) c.from_residual-in_err-store_file.ensures.1
     (inr (λ same. false≢true (sym c.if-eq.false ∙ c.eq.ensures ∙ (bytes_eq-Decides _ _).1 same), (refl, rw c.stack_file-file.ensures at c.in_err-store_file.ensures.err)))
+
+pub returns-in_err-store_device-clause-noted : goal.returns-in_err-store_device-clause-noted
+returns-in_err-store_device-clause-noted g c =
+    let same = (bytes_eq-Decides _ _).0 (sym c.eq.ensures ∙ c.if-eq.true) in
+    inl (same, rw c.stack_file-file.ensures at c.in_err-store_device.ensures.noted)
+
+pub returns-in_err-store_file-clause-noted : goal.returns-in_err-store_file-clause-noted
+returns-in_err-store_file-clause-noted g c =
+    inr (λ same. false≢true (sym c.if-eq.false ∙ c.eq.ensures ∙ (bytes_eq-Decides _ _).1 same), rw c.stack_file-file.ensures at c.in_err-store_file.ensures.noted)

@@ -6,3 +6,6 @@ returns-clause-ok g c = rw c.stack_file-file.ensures at c.write_stack_file.ensur
 
 pub returns-clause-err : goal.returns-clause-err
 returns-clause-err g c = both-errs c.write_stack_file.result _ _ (rw c.stack_file-file.ensures at c.write_stack_file.ensures.err) c.write_stack_file.ensures.quiet
+
+pub returns-clause-noted : goal.returns-clause-noted
+returns-clause-noted g c = rw c.stack_file-file.ensures at c.write_stack_file.ensures.noted

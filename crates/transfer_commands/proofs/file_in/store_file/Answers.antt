@@ -1,6 +1,7 @@
 use Rattle.std.proofs.Common.{Bool, Ok, inl, inr, refl, subst}
 use Rattle.stack_files.specs.Endings.{opening_ending}
 use Rattle.stack_files.specs.NamedDevices.{device_place}
+use Rattle.stack_files.specs.declared.stack_fault.StackFault.TheVariants.{Open}
 use Rattle.transfer_commands.specs.declared.stream_fault.StreamFault.TheVariants.{Stack, Write}
 use Rattle.transfer_commands.proofs.StreamOpeningLemmas.{err-from}
 use Rattle.transfer_commands.proofs.file_in.store_file.Goals as goal
@@ -101,3 +102,89 @@ returns-clause-err g c = inr (inl (record {
   quiet = refl;
   back = c.close_stack.ensures;
 }))
+
+-- ---- what is printed among the errors
+
+pub returns-in_err-over-clause-noted : goal.returns-in_err-over-clause-noted
+returns-in_err-over-clause-noted g c = inr ((opening_ending c.in_err-over.field-0.0, inl (c.in_err-over.field-0.0, refl, c.in_err-over.ensures.err)), refl)
+
+pub returns-in-Err-clause-noted : goal.returns-in-Err-clause-noted
+returns-in-Err-clause-noted g c = inr (
+  (
+    Open (record { fault = c.in-Err.fault; path = c.args.source }),
+    inr (inl (record {
+      over = c.in_ok-over.over;
+      image = c.in_ok-over.image;
+      between = c.open_with_input.new.images;
+      opened = c.in_ok-over.ensures.ok;
+      fails = (refl, rw c.in-Err.is at c.has_part_sector.ensures);
+    })),
+  ),
+  refl,
+)
+
+pub returns-in_err-stack-clause-noted : goal.returns-in_err-stack-clause-noted
+returns-in_err-stack-clause-noted g c = inr (
+  (
+    c.in_err-stack.field-0.0,
+    inr (inr (record {
+      over = c.in_ok-over.over;
+      image = c.in_ok-over.image;
+      part = c.in-Ok.part;
+      opened = record { between = c.open_with_input.new.images; opened = c.in_ok-over.ensures.ok; measured = rw c.in-Ok.is at c.has_part_sector.ensures };
+      fails = c.in_err-stack.ensures.err;
+    })),
+  ),
+  refl,
+)
+
+pub returns-in_err-say_stored-in-Ok-outcome-clause-noted : goal.returns-in_err-say_stored-in-Ok-outcome-clause-noted
+returns-in_err-say_stored-in-Ok-outcome-clause-noted g c = inl (
+  c.in_ok-stack.stack,
+  record {
+    d = c.in_ok-stack.device.0;
+    image = c.in_ok-over.image;
+    part = c.in-Ok.part;
+    between = c.has_part_sector.new.self;
+    found = record {
+      over = c.in_ok-over.over;
+      opened = record { between = c.open_with_input.new.images; opened = c.in_ok-over.ensures.ok; measured = c.in-Ok.ensures };
+      has = c.in_ok-stack.ensures.ok;
+    };
+  },
+  rw c.config.ensures.value at c.note_unchecked.ensures.noted,
+)
+
+pub returns-in-Ok-outcome-clause-noted : goal.returns-in-Ok-outcome-clause-noted
+returns-in-Ok-outcome-clause-noted g c = inl (
+  c.in_ok-stack.stack,
+  record {
+    d = c.in_ok-stack.device.0;
+    image = c.in_ok-over.image;
+    part = c.in-Ok.part;
+    between = c.has_part_sector.new.self;
+    found = record {
+      over = c.in_ok-over.over;
+      opened = record { between = c.open_with_input.new.images; opened = c.in_ok-over.ensures.ok; measured = c.in-Ok.ensures };
+      has = c.in_ok-stack.ensures.ok;
+    };
+  },
+  rw c.config.ensures.value at c.note_unchecked.ensures.noted,
+)
+
+pub returns-clause-noted : goal.returns-clause-noted
+returns-clause-noted g c = inl (
+  c.in_ok-stack.stack,
+  record {
+    d = c.in_ok-stack.device.0;
+    image = c.in_ok-over.image;
+    part = c.in-Ok.part;
+    between = c.has_part_sector.new.self;
+    found = record {
+      over = c.in_ok-over.over;
+      opened = record { between = c.open_with_input.new.images; opened = c.in_ok-over.ensures.ok; measured = c.in-Ok.ensures };
+      has = c.in_ok-stack.ensures.ok;
+    };
+  },
+  rw c.config.ensures.value at c.note_unchecked.ensures.noted,
+)

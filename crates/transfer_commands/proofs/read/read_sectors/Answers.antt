@@ -1,4 +1,4 @@
-use Rattle.std.proofs.Common.{inl, inr, subst}
+use Rattle.std.proofs.Common.{inl, inr, refl, subst}
 use Rattle.std.proofs.lemmas.Result.{IfErr-weaker, IfOk-weaker}
 use Rattle.request_queue.specs.World.{World}
 use Rattle.transfer_commands.specs.declared.request_fault.RequestFault.TheVariants.{Stack}
@@ -29,3 +29,11 @@ returns-clause-err g c =
       loaded = c.in_ok-stack.ensures.ok;
       fails = subst (λ (q : World). FailsToServe q (read_request c.args.sectors) fault c.fetch.new.queue) c.new-queue.ensures.value fails;
     })) c.fetch.ensures.err
+
+-- ---- what is printed among the errors
+
+pub returns-in_err-stack-clause-noted : goal.returns-in_err-stack-clause-noted
+returns-in_err-stack-clause-noted g c = inr ((c.in_err-stack.field-0.0, c.in_err-stack.ensures.err), refl)
+
+pub returns-clause-noted : goal.returns-clause-noted
+returns-clause-noted g c = inl (c.in_ok-stack.stack, c.in_ok-stack.ensures.ok, rw c.config.ensures.value at c.note_unchecked.ensures.noted)

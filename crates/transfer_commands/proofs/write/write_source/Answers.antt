@@ -50,3 +50,33 @@ returns-in_ok-synced-in-Ok-clause-ok g c = record {
       c.in_ok-over.ensures.ok c.in_ok-stack.ensures.ok c.new-queue.ensures.value c.in-Ok.ensures.ok;
   back = rw c.into_stack-stack.ensures at c.in_ok-synced-in-Ok.ensures;
 }
+
+-- ---- what is printed among the errors
+
+pub returns-in_err-over-clause-noted : goal.returns-in_err-over-clause-noted
+returns-in_err-over-clause-noted g c = inr ((opening_ending c.in_err-over.field-0.0, inl (c.in_err-over.field-0.0, refl, c.in_err-over.ensures.err)), refl)
+
+pub returns-in_err-stack-clause-noted : goal.returns-in_err-stack-clause-noted
+returns-in_err-stack-clause-noted g c =
+    inr ((c.in_err-stack.field-0.0, inr (record { over = c.in_ok-over.over; source = c.in_ok-over.source; opened = c.in_ok-over.ensures.ok; fails = c.in_err-stack.ensures.err })), refl)
+
+pub returns-in-Err-clause-noted : goal.returns-in-Err-clause-noted
+returns-in-Err-clause-noted g c = inl (
+  c.in_ok-stack.stack,
+  record { over = c.in_ok-over.over; source = c.in_ok-over.source; between = c.open_with_source.new.images; opened = c.in_ok-over.ensures.ok; made = c.in_ok-stack.ensures.ok },
+  rw c.config.ensures.value at c.note_unchecked.ensures.noted,
+)
+
+pub returns-in_err-synced-in-Ok-clause-noted : goal.returns-in_err-synced-in-Ok-clause-noted
+returns-in_err-synced-in-Ok-clause-noted g c = inl (
+  c.in_ok-stack.stack,
+  record { over = c.in_ok-over.over; source = c.in_ok-over.source; between = c.open_with_source.new.images; opened = c.in_ok-over.ensures.ok; made = c.in_ok-stack.ensures.ok },
+  rw c.config.ensures.value at c.note_unchecked.ensures.noted,
+)
+
+pub returns-in_ok-synced-in-Ok-clause-noted : goal.returns-in_ok-synced-in-Ok-clause-noted
+returns-in_ok-synced-in-Ok-clause-noted g c = inl (
+  c.in_ok-stack.stack,
+  record { over = c.in_ok-over.over; source = c.in_ok-over.source; between = c.open_with_source.new.images; opened = c.in_ok-over.ensures.ok; made = c.in_ok-stack.ensures.ok },
+  rw c.config.ensures.value at c.note_unchecked.ensures.noted,
+)

@@ -1,9 +1,9 @@
 //! What isn't checked of a configuration, printed among the errors.
 ghost use Rattle.std.specs.Prelude.{◌≡◌, true};
-ghost use Rattle.partition_commands.specs.Unchecked.{unchecked_text};
-ghost use Rattle.partition_commands.specs.Warnings.{IsNoted, notes_of};
+ghost use Rattle.stack_files.specs.Unchecked.{unchecked_text};
+ghost use Rattle.stack_files.specs.Warnings.{IsNoted, notes_of};
 
-use crate::warnings::say_if;
+use crate::warning::say_if;
 use linux_rules::has_signature;
 use program_io::Counted;
 use stack_config::Config;

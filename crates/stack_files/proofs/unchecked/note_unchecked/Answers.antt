@@ -1,5 +1,5 @@
-use Rattle.partition_commands.proofs.NoteLemmas.{done-or-failed, failed-before}
-use Rattle.partition_commands.proofs.unchecked.note_unchecked.Goals as goal
+use Rattle.stack_files.proofs.lemmas.NoteLemmas.{done-or-failed, failed-before}
+use Rattle.stack_files.proofs.unchecked.note_unchecked.Goals as goal
 
 pub returns-clause-noted : goal.returns-clause-noted
 returns-clause-noted g c = done-or-failed _ _ c.say_if-said.result (rw c.has_signature.ensures at c.say_if-said.ensures)
