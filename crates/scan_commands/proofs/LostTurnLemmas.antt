@@ -24,6 +24,7 @@ use Rattle.scan_commands.specs.declared.phase.Phase.{Phase}
 use Rattle.scan_commands.specs.declared.phase.Phase.TheVariants.{Retry, Scrape, Skim, Sweep, Trim}
 use Rattle.scan_commands.specs.Laws.{is_in}
 use Rattle.scan_commands.specs.Turns.{IsTurn, Kept, Progressed, asked_marks, span_between, step_of}
+use Rattle.scan_commands.proofs.TurnLemmas.{up-to-few}
 use Rattle.scan_commands.proofs.LostSectorLemmas.{AreBetween, between-append, in-append, in-before, in-behind, runs-in, runs-span}
 use Rattle.scan_commands.proofs.LostMarkLemmas.{had-lost, spliced-before, spliced-behind, spliced-inside, spliced-size, survey-marked}
 
@@ -154,7 +155,7 @@ module _ {S : Type 0} (k : Kept S) (phase : Phase) (old new : Progressed S) (t :
     marked-none j is = let here : j ≡ 0 + j = omega arith in survey-marked asked k.scan.d 0 w reads w' j survey (sym (ap (λ (n : ℕ). get_or asked n false) here) ∙ is)
 
     none-behind : (j : ℕ) → new.at ≤ j → j < length states → get_or states j None ≡ None
-    none-behind j past low = marked-none j (asked-behind j (omega (arith, past, low, states-length, t.here)) (omega (arith, low, states-length, t.few)))
+    none-behind j past low = marked-none j (asked-behind j (omega (arith, past, low, states-length, t.here)) (omega (arith, low, states-length, up-to-few k.file k.sectors (length (marks t.made.map)) t.few)))
 
     runs-between : AreBetween old.at new.at runs
     runs-between =

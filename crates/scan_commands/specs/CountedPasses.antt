@@ -10,7 +10,7 @@ use Rattle.scan_commands.specs.Passes.{Moving, Passes, moving, retried_of}
 use Rattle.stack_recovery.specs.declared.recovery.Counts.{Counts}
 use Rattle.stack_recovery.specs.Listings.{Listed}
 use Rattle.stack_recovery.specs.Recoveries.{sides}
-use Rattle.stack_recovery.specs.Retries.{Retried}
+use Rattle.scan_commands.specs.Retries.{Retried}
 
 -- no block was restored
 abbrev pub unrestored : Counts → PassCounts

@@ -1,5 +1,5 @@
--- Laws of passes with a map file.
-use Rattle.std.specs.Prelude.{◌≡◌, ℕ, ◌+◌, ◌<◌, nat_le, nat_lt, Bool, false, not, ◌&&◌, ◌||◌, List, [], ◌∷◌}
+-- Laws of the passes over a device.
+use Rattle.std.specs.Prelude.{◌≡◌, ℕ, ◌+◌, ◌<◌, nat_le, nat_lt, Bool, false, not, ◌&&◌, ◌||◌, List, [], ◌∷◌, Option}
 use Rattle.std.specs.List.{slice_index_or}
 use Rattle.block_device.specs.Device.{Device}
 use Rattle.image_files.specs.Opener.{Opener, calls}
@@ -11,9 +11,9 @@ use Rattle.stack_rules.specs.Names.{mapped, size}
 use Rattle.stack_recovery.specs.declared.recovery.Counts.{Counts}
 use Rattle.stack_recovery.specs.Joins.{joined_states}
 use Rattle.stack_recovery.specs.LostRuns.{LostRun, is_same_loss}
-use Rattle.stack_recovery.specs.Retries.{Retried}
+use Rattle.scan_commands.specs.Retries.{Retried}
 use Rattle.scan_commands.specs.MapFiles.{MapPathRecord}
-use Rattle.scan_commands.specs.Passes.{IsRescued, Moving}
+use Rattle.scan_commands.specs.Passes.{Moving, Passes}
 
 -- a sector is in a run, or in one of several
 abbrev pub is_within : LostRun → ℕ → Bool
@@ -27,8 +27,8 @@ is_in (r ∷ more) s = is_within r s || is_in more s
 abbrev pub reported : List Run → List LostRun → List LostRun → List LostRun
 reported runs known found = runs_of is_same_loss 0 (joined_states 0 (statuses runs) known found)
 
--- With a map file a sector is in a reported run exactly if the last map doesn't mark it as recovered.
+-- A sector is in a reported run exactly if the last map doesn't mark it as recovered.
 abbrev pub LostRunsAreUnrecovered : {S D : Type 0} → Opener S D → (D → Device) → Type 0
 LostRunsAreUnrecovered {S} relations state =
-    (old new : S) (file : MapPathRecord) (t : Retried) (m : Moving) (counts : Counts) (r : IsRescued (calls relations state old new) file t m counts) (s : ℕ) → s < size m.old.stack.config (mapped t.d)
+    (old new : S) (file : Option MapPathRecord) (t : Retried) (m : Moving) (counts : Counts) (r : Passes (calls relations state old new) file t m counts) (s : ℕ) → s < size m.old.stack.config (mapped t.d)
     → is_in (reported r.rescued.last.made.map r.rescued.known r.rescued.last.found) s ≡ not (slice_index_or (marks r.rescued.last.made.map) s false)

@@ -1,5 +1,5 @@
 -- What callers may cite.
 pub mod JoinLemmas
 pub mod LostLemmas
-pub mod StepLemmas
+pub mod MeantLemmas
 pub mod WritingLemmas

@@ -1,5 +1,5 @@
 -- What is found over leaves that are steady and never fail.
-use Rattle.std.proofs.Common.{Bool, ◌&&◌, ◌||◌, ◌≡◌, ◌≢◌, ◌⊎◌, ℕ, zero, suc, ◌+◌, ◌-◌, ◌<◌, List, [], ◌∷◌, ◌++◌, length, get_or, map, replicate, true, false, Some, None, Ok, Err, inl, inr, refl, sym, ap, ◌∙◌, subst, arith}
+use Rattle.std.proofs.Common.{Bool, ◌≡◌, ◌≢◌, ◌⊎◌, ℕ, zero, suc, ◌+◌, ◌-◌, ◌<◌, List, [], ◌∷◌, ◌++◌, length, get_or, replicate, true, false, Some, None, Ok, Err, inl, inr, refl, sym, ap, ◌∙◌, subst, arith}
 use Rattle.std.proofs.lemmas.Bool.{false≢true}
 use Rattle.std.proofs.lemmas.List.{get_or-replicate, length-append, length-replicate}
 use Rattle.block_device.specs.Device.{Device, in_memory}
@@ -17,20 +17,12 @@ use Rattle.stack_engine.specs.Bytes.{EachBytes}
 use Rattle.stack_engine.specs.Stacks.{StackRecord}
 use Rattle.stack_meaning.proofs.lemmas.LeafListLemmas.{AreSteady-kept, images-kept, same_length}
 use Rattle.stack_recovery.specs.Alike.{AreAlike}
-use Rattle.stack_recovery.specs.Laws.{AreSure, MarksAreMeant, StatesAreMeant, SurveysAreMeant, meant_state, meant_states}
-use Rattle.rescue_map.specs.declared.map.Run.{Run}
-use Rattle.rescue_map.specs.Maps.{is_settled, joined, kept_had, losts, marks, settled_marks}
-use Rattle.stack_recovery.specs.FirstPasses.{Transfer, transfer, unread_marks}
-use Rattle.stack_recovery.specs.LargePasses.{ReadsLarge}
+use Rattle.stack_recovery.specs.Laws.{AreSure, MarksAreMeant, SurveysAreMeant, meant_state, meant_states}
 use Rattle.stack_recovery.specs.Skims.{IsSkimOver, Skim, is_read, marks_of, skim_marks}
 use Rattle.stack_recovery.specs.declared.lost_run.Loss.TheVariants.{Lost}
-use Rattle.stack_recovery.specs.PassLaws.{AreScraped, IsScraped}
-use Rattle.stack_recovery.specs.PassPieces.{ArePassPieces, Pass, Scanned}
-use Rattle.stack_recovery.specs.Recoveries.{is_had}
-use Rattle.stack_recovery.specs.Retries.{AfterPass, IsSilentPass, Steps, after_pass, no_step, one_more, scan_of}
+use Rattle.stack_recovery.specs.PassLaws.{IsScraped}
 use Rattle.stack_recovery.specs.Surveys.{Finding, IsPieceSurveyed, IsSurveyOver, PieceRead, SectorState, again, all_states, had, kept, lost, probed, states_found, states_of, trimmed}
 use Rattle.stack_recovery.proofs.AheadLemmas.{marks-none}
-use Rattle.stack_recovery.proofs.PieceLemmas.{passes-scrape}
 use Rattle.stack_recovery.proofs.lemmas.LostLemmas.{span-fault}
 
 -- ---- sectors of a span
@@ -124,12 +116,12 @@ module _ (marks : List Bool) (d first : ℕ) (w : StackRecord) (known : MarksAre
 -- ---- what a read leaves
 
 -- the stack means the same, and its backing devices are steady and never fail
-record IsLeft (d : ℕ) (w after : StackRecord) : Type 0 where
-  config : after.config ≡ w.config
-  images : steady_images after.leaves ≡ steady_images w.leaves
-  sure : AreSure after.config (λ i. stands_on after.config i (mapped d)) after.leaves
+pub record IsLeft (d : ℕ) (w after : StackRecord) : Type 0 where
+  pub config : after.config ≡ w.config
+  pub images : steady_images after.leaves ≡ steady_images w.leaves
+  pub sure : AreSure after.config (λ i. stands_on after.config i (mapped d)) after.leaves
 
-same-left : (d : ℕ) (w after : StackRecord) → after ≡ w → AreSure w.config (λ i. stands_on w.config i (mapped d)) w.leaves → IsLeft d w after
+pub same-left : (d : ℕ) (w after : StackRecord) → after ≡ w → AreSure w.config (λ i. stands_on w.config i (mapped d)) w.leaves → IsLeft d w after
 same-left d w after e sure = subst (λ (v : StackRecord). IsLeft d w v) (sym e) (record { config = refl; images = refl; sure = sure })
 
 read-left : (d : ℕ) (w after : StackRecord) {n : ℕ} → AreRead w.leaves n after.leaves → after.config ≡ w.config → AreSure w.config (λ i. stands_on w.config i (mapped d)) w.leaves → IsLeft d w after
@@ -139,7 +131,7 @@ read-left d w after moved config sure = record {
   sure = subst (λ (c : Configuration). AreSure c (λ i. stands_on c i (mapped d)) after.leaves) (sym config) (sure-kept moved sure);
 }
 
-then-left : (d : ℕ) (w mid after : StackRecord) → IsLeft d w mid → IsLeft d mid after → IsLeft d w after
+pub then-left : (d : ℕ) (w mid after : StackRecord) → IsLeft d w mid → IsLeft d mid after → IsLeft d w after
 then-left d w mid after p q = record { config = q.config ∙ p.config; images = q.images ∙ p.images; sure = q.sure }
 
 piece-left : (marks : List Bool) (d first : ℕ) (w : StackRecord) (n : ℕ) (found : Finding) (after : StackRecord) → IsPieceSurveyed marks d first w (record { count = n; found = found; after = after })
@@ -152,12 +144,12 @@ piece-left marks d first w n (trimmed behind fault) after p sure = read-left d w
 piece-left marks d first w n kept after p sure = same-left d w after p.answered sure
 
 -- what a sector means afterwards
-left-state : (d : ℕ) (w after : StackRecord) (k : ℕ) → IsLeft d w after
+pub left-state : (d : ℕ) (w after : StackRecord) (k : ℕ) → IsLeft d w after
     → meant_state (sector after.config (steady_images after.leaves) (mapped d) k) ≡ meant_state (sector w.config (steady_images w.leaves) (mapped d) k)
 left-state d w after k p =
     ap (λ (c : Configuration). meant_state (sector c (steady_images after.leaves) (mapped d) k)) p.config ∙ ap (λ (i : Images). meant_state (sector w.config i (mapped d) k)) p.images
 
-left-states : (d : ℕ) (w after : StackRecord) (first n : ℕ) → IsLeft d w after
+pub left-states : (d : ℕ) (w after : StackRecord) (first n : ℕ) → IsLeft d w after
     → meant_states (sector after.config (steady_images after.leaves) (mapped d)) first n ≡ meant_states (sector w.config (steady_images w.leaves) (mapped d)) first n
 left-states d w after first n p =
     ap (λ (c : Configuration). meant_states (sector c (steady_images after.leaves) (mapped d)) first n) p.config ∙ ap (λ (i : Images). meant_states (sector w.config i (mapped d)) first n) p.images
@@ -225,7 +217,7 @@ module _ (before : List Bool) (d first : ℕ) (w : StackRecord) (s : Skim) (more
   skim-known k e new = apart k (marked-apart (marks_of s) (skim_marks more) k e) new
 
 -- what the pass leaves, and that the sectors that it marks, but weren't marked before, mean bytes
-skims-known : (before : List Bool) (d first : ℕ) (w : StackRecord) (skims : List Skim) (w' : StackRecord) → IsSkimOver before d first w skims w'
+pub skims-known : (before : List Bool) (d first : ℕ) (w : StackRecord) (skims : List Skim) (w' : StackRecord) → IsSkimOver before d first w skims w'
     → AreSure w.config (λ i. stands_on w.config i (mapped d)) w.leaves
     → IsLeft d w w' × ((k : ℕ) → get_or (skim_marks skims) k false ≡ true → get_or before (first + k) false ≡ false → meant_state (sector w.config (steady_images w.leaves) (mapped d) (first + k)) ≡ None)
 skims-known before d first w [] w' h sure = (same-left d w w' h sure, λ k e new. absurd (false≢true e))
@@ -234,116 +226,8 @@ skims-known before d first w (s ∷ more) w' h sure =
     let rest = skims-known before d (first + length (marks_of s)) s.piece.after more w' h.1 left.sure in
     (then-left d w s.piece.after w' left rest.0, skim-known before d first w s more h.0 sure left rest.1)
 
--- ---- the passes between the first one and the last
-
-survey-left : (before : List Bool) (d first : ℕ) (w : StackRecord) (reads : List PieceRead) (w' : StackRecord) → IsSurveyOver before d first w reads w' → AreSure w.config (λ i. stands_on w.config i (mapped d)) w.leaves → IsLeft d w w'
+pub survey-left : (before : List Bool) (d first : ℕ) (w : StackRecord) (reads : List PieceRead) (w' : StackRecord) → IsSurveyOver before d first w reads w' → AreSure w.config (λ i. stands_on w.config i (mapped d)) w.leaves → IsLeft d w w'
 survey-left before d first w [] w' s sure = same-left d w w' s sure
 survey-left before d first w (r ∷ more) w' s sure =
     let left : IsLeft d w r.after = piece-left before d first w r.count r.found r.after s.0 sure in
     then-left d w r.after w' left (survey-left before d (first + length (states_of r)) r.after more w' s.1 left.sure)
-
-read-state : (s : SectorState) → is_had s ≡ true → s ≡ None
-read-state None e = refl
-read-state (Some fault) e = absurd (false≢true e)
-
--- a sector that is marked means bytes, if the marks are those of what the sectors mean
-meant-marked : (at : ℕ → Outcome) (first n k : ℕ) → get_or (map is_had (meant_states at first n)) k false ≡ true → meant_state (at (first + k)) ≡ None
-meant-marked at first zero k e = absurd (false≢true e)
-meant-marked at first (suc n) zero e = let here : first + 0 ≡ first = omega arith in ap (λ (t : ℕ). meant_state (at t)) here ∙ read-state (meant_state (at first)) e
-meant-marked at first (suc n) (suc k) e = let step : first + suc k ≡ suc first + k = omega arith in ap (λ (t : ℕ). meant_state (at t)) step ∙ meant-marked at (suc first) n k e
-
-pass-scraped : (no_scrape : Bool) (p : Pass) (reads : List PieceRead) → no_scrape ≡ false → ArePassPieces no_scrape p reads → AreScraped reads
-pass-scraped no_scrape p reads scrapes pieces = passes-scrape p reads (subst (λ (b : Bool). ArePassPieces b p reads) scrapes pieces)
-
--- what a pass leaves, and that the sectors that its map marks mean bytes
-silent-known : (scan : Scanned) (old new : AfterPass Device) → scan.no_scrape ≡ false → IsSilentPass scan old new → MarksAreMeant (marks old.map) scan.d old.stack → AreSure old.stack.config (λ i. stands_on old.stack.config i (mapped scan.d)) old.stack.leaves
-    → IsLeft scan.d old.stack new.stack × MarksAreMeant (marks new.map) scan.d new.stack
-silent-known scan old new scrapes p known sure =
-    let d : ℕ = scan.d in
-    let over = p.3 in
-    let n : ℕ = length (all_states over.reads) in
-    let at : ℕ → Outcome = sector old.stack.config (steady_images old.stack.leaves) (mapped d) in
-    let left : IsLeft d old.stack new.stack = survey-left (marks old.map) d 0 old.stack over.reads new.stack over.survey sure in
-    let meant : all_states over.reads ≡ meant_states at 0 n = surveys-meant (marks old.map) d 0 old.stack over.reads new.stack over.survey (pass-scraped scan.no_scrape _ over.reads scrapes over.pieces) known sure in (
-      left,
-      λ k is.
-          let here : 0 + k ≡ k = omega arith in
-          left-state d old.stack new.stack k left ∙ ap (λ (t : ℕ). meant_state (at t)) (sym here) ∙ meant-marked at 0 n k (sym (ap (λ (l : List Bool). get_or l k false) (over.noted ∙ ap (map is_had) meant)) ∙ is),
-    )
-
-steps-known : (scan : Scanned) (first : AfterPass Device) → scan.no_scrape ≡ false → MarksAreMeant (marks first.map) scan.d first.stack → AreSure first.stack.config (λ i. stands_on first.stack.config i (mapped scan.d)) first.stack.leaves
-    → {n : ℕ} {last : AfterPass Device} → Steps (λ (k : ℕ). IsSilentPass scan) first n last → IsLeft scan.d first.stack last.stack × MarksAreMeant (marks last.map) scan.d last.stack
-steps-known scan first scrapes known sure no_step = (same-left scan.d first.stack first.stack refl sure, known)
-steps-known scan first scrapes known sure (one_more {n} {now} {next} before step) =
-    let so_far = steps-known scan first scrapes known sure before in
-    let here = silent-known scan now next scrapes step so_far.1 so_far.0.sure in
-    (then-left scan.d first.stack now.stack next.stack so_far.0 here.0, here.1)
-
--- ---- the passes in large pieces
-
--- a mark of both: the second pass has the sector, and no piece of the first one failed there
-kept-bits : (f h : Bool) → kept_had false f h ≡ true → (h ≡ true) × (f ≡ false)
-kept-bits true true e = absurd (false≢true e)
-kept-bits true false e = absurd (false≢true e)
-kept-bits false true e = (refl, refl)
-kept-bits false false e = absurd (false≢true e)
-
-joined-kept : (failed read : List Bool) (k : ℕ) → get_or (joined (kept_had false) failed read) k false ≡ true → (get_or read k false ≡ true) × (get_or failed k false ≡ false)
-joined-kept [] read k e = absurd (false≢true e)
-joined-kept (f ∷ failed) [] k e = absurd (false≢true e)
-joined-kept (f ∷ failed) (h ∷ read) zero e = kept-bits f h e
-joined-kept (f ∷ failed) (h ∷ read) (suc k) e = joined-kept failed read k e
-
--- a sector that counts as read before the second pass was read in the first one, or is in a failed piece
-settled-bits : (read bad : Bool) → (read || (bad && true)) ≡ true → bad ≡ false → read ≡ true
-settled-bits true bad e isnt = refl
-settled-bits false true e isnt = absurd (false≢true (sym isnt))
-settled-bits false false e isnt = e
-
-settled-in : (r : Run) (a b c : List Bool) → ((k : ℕ) → get_or a k false ≡ true → get_or b k false ≡ false → get_or c k false ≡ true) → (n k : ℕ) → get_or (replicate n (is_settled false r) ++ a) k false ≡ true
-    → get_or (replicate n r.lost ++ b) k false ≡ false → get_or (replicate n r.had ++ c) k false ≡ true
-settled-in r a b c rest zero k e isnt = rest k e isnt
-settled-in r a b c rest (suc n) zero e isnt = settled-bits r.had r.lost e isnt
-settled-in r a b c rest (suc n) (suc k) e isnt = settled-in r a b c rest n k e isnt
-
-settled-apart : (runs : List Run) (k : ℕ) → get_or (settled_marks false runs) k false ≡ true → get_or (losts runs) k false ≡ false → get_or (marks runs) k false ≡ true
-settled-apart [] k e isnt = e
-settled-apart (r ∷ more) k e isnt = settled-in r (settled_marks false more) (losts more) (marks more) (settled-apart more) r.count k e isnt
-
--- what they leave, and that the sectors that their map marks mean bytes
-module _ (d : ℕ) (old : Transfer Device) (made : List Run) (new : Transfer Device) (p : ReadsLarge d old made new) (sure : AreSure old.stack.config (λ i. stands_on old.stack.config i (mapped d)) old.stack.leaves) where
-  one : IsLeft d old.stack p.between.stack × ((k : ℕ) → get_or (skim_marks p.skims.skims) k false ≡ true → get_or (unread_marks old.stack.config d) (0 + k) false ≡ false → meant_state (sector old.stack.config (steady_images old.stack.leaves) (mapped d) (0 + k)) ≡ None)
-  one = skims-known (unread_marks old.stack.config d) d 0 old.stack p.skims.skims p.between.stack p.skims.survey sure
-
-  two : IsLeft d p.between.stack new.stack × ((k : ℕ) → get_or (skim_marks p.sweeps.skims) k false ≡ true → get_or (settled_marks false p.first.map) (0 + k) false ≡ false → meant_state (sector p.between.stack.config (steady_images p.between.stack.leaves) (mapped d) (0 + k)) ≡ None)
-  two = skims-known (settled_marks false p.first.map) d 0 p.between.stack p.sweeps.skims new.stack p.sweeps.survey one.0.sure
-
-  first-known : (k : ℕ) → get_or (marks p.first.map) k false ≡ true → meant_state (sector old.stack.config (steady_images old.stack.leaves) (mapped d) k) ≡ None
-  first-known k is =
-      let here : k ≡ 0 + k = omega arith in
-      ap (λ (t : ℕ). meant_state (sector old.stack.config (steady_images old.stack.leaves) (mapped d) t)) here ∙ one.1 k (sym (ap (λ (l : List Bool). get_or l k false) p.skims.noted) ∙ is) (sym (marks-none (size old.stack.config (mapped d)) (0 + k)))
-
-  by-settled : (k : ℕ) (b : Bool) → get_or (settled_marks false p.first.map) k false ≡ b → get_or (marks p.second.map) k false ≡ true → get_or (losts p.first.map) k false ≡ false → meant_state (sector old.stack.config (steady_images old.stack.leaves) (mapped d) k) ≡ None
-  by-settled k true before is isnt = first-known k (settled-apart p.first.map k before isnt)
-  by-settled k false before is isnt =
-      let here : k ≡ 0 + k = omega arith in
-      sym (left-state d old.stack p.between.stack k one.0) ∙ ap (λ (t : ℕ). meant_state (sector p.between.stack.config (steady_images p.between.stack.leaves) (mapped d) t)) here
-      ∙ two.1 k (sym (ap (λ (l : List Bool). get_or l k false) p.sweeps.noted) ∙ is) (ap (λ (t : ℕ). get_or (settled_marks false p.first.map) t false) (sym here) ∙ before)
-
-  large-known : IsLeft d old.stack new.stack × MarksAreMeant (marks made) d new.stack
-  large-known =
-      let left : IsLeft d old.stack new.stack = then-left d old.stack p.between.stack new.stack one.0 two.0 in (
-        left,
-        λ k is.
-            let both = joined-kept (losts p.first.map) (marks p.second.map) k (sym (ap (λ (l : List Bool). get_or l k false) p.map.had) ∙ is) in
-            left-state d old.stack new.stack k left ∙ by-settled k (get_or (settled_marks false p.first.map) k false) refl both.0 both.1,
-      )
-
-pub states-meant : StatesAreMeant
-states-meant t old counts new r scrapes sure =
-    let d : ℕ = t.d in
-    let n : ℕ = length (all_states r.rescues.reads) in
-    let p = large-known d (transfer old.stack old.out) r.failed r.between r.large sure in
-    let q = steps-known (scan_of t) (after_pass r.between.stack r.between.out r.failed) scrapes p.1 p.0.sure r.retries.steps in
-    surveys-meant (marks r.left.map) d 0 r.left.stack r.rescues.reads new.stack r.rescues.survey (pass-scraped t.no_scrape _ r.rescues.reads scrapes r.rescues.pieces) q.1 q.0.sure
-    ∙ left-states d old.stack r.left.stack 0 n (then-left d old.stack r.between.stack r.left.stack p.0 q.0)
