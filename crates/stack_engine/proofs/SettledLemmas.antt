@@ -183,10 +183,10 @@ module _ {c : Configuration} {p : VerityPart} {n : ℕ} {found : List FoundRecor
       | inl spare ↦
           let failed = healed-err spare.spare fault spare.is in
           subst (λ (y : IoFault). ReadsSource c (Blocks p) n (record { old = did.old; new = new; before = did.before; after = did.after }) (Err y)) (sym failed.is)
-          (block-fails b out inside read next len end (settled-moved c p.verity.now judged heals (inr (inl spare))) made x same (kept.ahead (plain spare.together)) within spare.used spare.differs failed.vain
+          (block-fails b out inside read next len end (settled-moved c p.verity.now judged {block = stood} heals (inr (inl spare))) made x same (kept.ahead (plain spare.together)) within spare.used spare.differs failed.vain
           (subst (λ (y : Result (List ℕ) IoFault). Gets (spare_wanted c p.verity.now judged.lost) did.new new y) failed.unread spare.got))
       | inr lone ↦
-          alone-fails b out inside read next len end (settled-moved c p.verity.now judged heals (inr (inr lone))) fault
+          alone-fails b out inside read next len end (settled-moved c p.verity.now judged {block = stood} heals (inr (inr lone))) fault
           (subst (λ (y : Result (Vec ℕ Global) IoFault). Gets (data_wanted c p.verity.now index expected) did.new new y) (alone-err lone.own fault lone.is) lone.got)
     ]
   ]
