@@ -16,4 +16,7 @@ mod LostSectorLemmas
 mod LostMarkLemmas
 mod LostTurnLemmas
 mod FoundRunLemmas
+mod MeantTurnLemmas
+mod MeantPassLemmas
+mod MeantStateLemmas
 mod MapUseLemmas

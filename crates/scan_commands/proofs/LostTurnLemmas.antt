@@ -51,7 +51,7 @@ or-false : (x : Bool) → x || false ≡ x
 or-false true = refl
 or-false false = refl
 
-not-false : (x : Bool) → not x ≡ false → x ≡ true
+pub not-false : (x : Bool) → not x ≡ false → x ≡ true
 not-false true e = refl
 not-false false e = absurd (false≢true (sym e))
 
@@ -108,6 +108,20 @@ module _ {S : Type 0} (k : Kept S) (phase : Phase) (old new : Progressed S) (t :
       ∙ ap is_recovered (stepped-get step span 0 (statuses old.runs) spliced bads s (omega (arith, low, size, statuses-length old.runs)) (omega (arith, low, spliced-all)) (omega (arith, low, bads-all)))
       ∙ ap (λ (n : ℕ). is_recovered (status_after step (is_inside span n) (was s) (get_or spliced s false) (get_or bads s false))) here
 
+  -- the status of a sector that the turn covers
+  pub status-new : (s : ℕ) → old.at ≤ s → s < new.at → get_or (statuses new.runs) s Untried ≡ status_after step true (was s) (get_or made s false) (get_or (losts t.made.map) s false)
+  status-new s from to =
+      let here : 0 + s ≡ s = omega arith in
+      let low : s < k.sectors = omega (arith, to, few-inside) in
+      let within : s < old.at + (new.at - old.at) = omega (arith, to, upto) in
+      ap (λ (l : List Status). get_or l s Untried) t.map
+      ∙ stepped-get step span 0 (statuses old.runs) spliced bads s (omega (arith, low, size, statuses-length old.runs)) (omega (arith, low, spliced-all)) (omega (arith, low, bads-all))
+      ∙ ap (λ (n : ℕ). status_after step (is_inside span n) (was s) (get_or spliced s false) (get_or bads s false)) here
+      ∙ ap (λ (i : Bool). status_after step i (was s) (get_or spliced s false) (get_or bads s false)) (inside-within span s from within)
+      ∙ ap (λ (h : Bool). status_after step true (was s) h (get_or bads s false)) (spliced-inside span (marks old.runs) made inside-old inside-made s from within)
+      ∙ ap (λ (b : Bool). status_after step true (was s) (get_or made s false) b)
+      (spliced-inside span (losts old.runs) (losts t.made.map) (omega (arith, inside-old, losts-length old.runs)) (omega (arith, inside-made, losts-length t.made.map)) s from within)
+
   -- the sectors before the turn are as they were
   mark-before : (s : ℕ) → s < old.at → get_or (marks new.runs) s false ≡ get_or (marks old.runs) s false
   mark-before s low =
@@ -135,7 +149,7 @@ module _ {S : Type 0} (k : Kept S) (phase : Phase) (old new : Progressed S) (t :
       spliced-behind t.span (replicate k.sectors true) (untaken_marks step.takes old.runs) read-inside read-untaken s (omega (arith, past, t.next.first, t.next.end))
       ∙ get_or-replicate k.sectors s true false low
 
-  asked-inside : (s : ℕ) → old.at ≤ s → s < t.end → get_or asked s false ≡ not (is_same (was s) step.takes)
+  pub asked-inside : (s : ℕ) → old.at ≤ s → s < t.end → get_or asked s false ≡ not (is_same (was s) step.takes)
   asked-inside s from to =
       spliced-inside t.span (replicate k.sectors true) (untaken_marks step.takes old.runs) read-inside read-untaken s (omega (arith, from, t.next.first)) (omega (arith, to, t.next.first, t.next.end))
       ∙ untaken-get step.takes old.runs s (omega (arith, to, t.next.inside, size))

@@ -1,5 +1,5 @@
 -- The effects of a pass over a mapped device in large pieces.
-use Rattle.std.specs.Prelude.{◌≡◌, ◌⊎◌, ℕ, Bool, IsTrue, List, ◌++◌, length, Option, Ok}
+use Rattle.std.specs.Prelude.{◌≡◌, ◌⊎◌, ℕ, Bool, false, IsTrue, List, ◌++◌, length, Option, Ok}
 use Rattle.allocation.specs.Refusal.{IsOutOfMemory}
 use Rattle.block_device.specs.Call.{Call, Calls}
 use Rattle.block_device.specs.Device.{Device, HasFailed, IsSameDevice, IsWritten}

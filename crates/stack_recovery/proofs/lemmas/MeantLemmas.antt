@@ -1,7 +1,7 @@
 -- What is found over leaves that are steady and never fail.
-use Rattle.std.proofs.Common.{Bool, ◌≡◌, ◌≢◌, ◌⊎◌, ℕ, zero, suc, ◌+◌, ◌-◌, ◌<◌, List, [], ◌∷◌, ◌++◌, length, get_or, replicate, true, false, Some, None, Ok, Err, inl, inr, refl, sym, ap, ◌∙◌, subst, arith}
-use Rattle.std.proofs.lemmas.Bool.{false≢true}
-use Rattle.std.proofs.lemmas.List.{get_or-replicate, length-append, length-replicate}
+use Rattle.std.proofs.Common.{Bool, ◌≡◌, ◌≢◌, ◌⊎◌, ℕ, zero, suc, ◌+◌, ◌-◌, ◌<◌, List, [], ◌∷◌, ◌++◌, length, get_or, replicate, true, false, Some, None, Ok, Err, inl, inr, refl, sym, ap, ap₂, ◌∙◌, subst, arith}
+use Rattle.std.proofs.lemmas.Bool.{cases_lt, false≢true}
+use Rattle.std.proofs.lemmas.List.{get_or-append_right, get_or-replicate, get_or_append_left, length-append, length-replicate}
 use Rattle.block_device.specs.Device.{Device, in_memory}
 use Rattle.stack_rules.specs.Names.{mapped, size}
 use Rattle.stack_rules.specs.Records.{Configuration}
@@ -18,11 +18,14 @@ use Rattle.stack_engine.specs.Stacks.{StackRecord}
 use Rattle.stack_meaning.proofs.lemmas.LeafListLemmas.{AreSteady-kept, images-kept, same_length}
 use Rattle.stack_recovery.specs.Alike.{AreAlike}
 use Rattle.stack_recovery.specs.Laws.{AreSure, MarksAreMeant, SurveysAreMeant, meant_state, meant_states}
-use Rattle.stack_recovery.specs.Skims.{IsSkimOver, Skim, is_read, marks_of, skim_marks}
-use Rattle.stack_recovery.specs.declared.lost_run.Loss.TheVariants.{Lost}
-use Rattle.stack_recovery.specs.PassLaws.{IsScraped}
+use Rattle.stack_recovery.specs.Skims.{AreSkims, IsSkimFound, IsSkimOver, Skim, failed_of, is_failed, is_read, marks_of, skim_failed, skim_marks}
+use Rattle.stack_recovery.specs.declared.lost_run.Loss.TheVariants.{Lost, Unscraped}
+use Rattle.stack_recovery.specs.PassLaws.{AreScraped, AreUnskipped, IsScraped}
+use Rattle.stack_recovery.specs.PassPieces.{ArePassPieces, Pass}
 use Rattle.stack_recovery.specs.Surveys.{Finding, IsPieceSurveyed, IsSurveyOver, PieceRead, SectorState, again, all_states, had, kept, lost, probed, states_found, states_of, trimmed}
 use Rattle.stack_recovery.proofs.AheadLemmas.{marks-none}
+use Rattle.stack_recovery.proofs.PieceLemmas.{passes-scrape}
+use Rattle.stack_recovery.proofs.SkimLawLemmas.{still-none, sweeps-all}
 use Rattle.stack_recovery.proofs.lemmas.LostLemmas.{span-fault}
 
 -- ---- sectors of a span
@@ -73,6 +76,11 @@ meant-byte at first (suc n) bytes e (suc k) low =
     let step : first + suc k ≡ suc first + k = omega arith in
     ap (λ (t : ℕ). meant_state (at t)) step ∙ meant-byte at (suc first) n rest.0 rest.1 k (omega (arith, low))
 
+meant-get : (at : ℕ → Outcome) (first n k : ℕ) → k < n → get_or (meant_states at first n) k None ≡ meant_state (at (first + k))
+meant-get at first zero k low = absurd (omega (arith, low))
+meant-get at first (suc n) zero low = let here : first ≡ first + 0 = omega arith in ap (λ (t : ℕ). meant_state (at t)) here
+meant-get at first (suc n) (suc k) low = let step : suc first + k ≡ first + suc k = omega arith in meant-get at (suc first) n k (omega (arith, low)) ∙ ap (λ (t : ℕ). meant_state (at t)) step
+
 -- sectors that are lost together, by the fault of one
 meant-fault : (c : Configuration) (images : Images) (d first n : ℕ) (fault : Fault) → AreAlike c d first n → span (sector c images (mapped d)) first n ≡ Err fault
     → meant_states (sector c images (mapped d)) first n ≡ replicate n (meant_state (Err fault))
@@ -93,21 +101,28 @@ sure-kept {c = c} {these = these} {old = old} {new = new} a s = record {
 abbrev some-device : Device
 some-device = in_memory [] true
 
-module _ (marks : List Bool) (d first : ℕ) (w : StackRecord) (known : MarksAreMeant marks d w) (sure : AreSure w.config (λ i. stands_on w.config i (mapped d)) w.leaves) (n : ℕ) (after : StackRecord) where
-  abbrev at : ℕ → Outcome
-  at = sector w.config (steady_images w.leaves) (mapped d)
-
+module _ (d first : ℕ) (w : StackRecord) (sure : AreSure w.config (λ i. stands_on w.config i (mapped d)) w.leaves) (n : ℕ) (after : StackRecord) where
   meant-lost : (fault : IoFault) → EachBytes w d first n (Err fault) after → AreAlike w.config d first n → fault ≢ NoMemory → meant_states (sector w.config (steady_images w.leaves) (mapped d)) first n ≡ replicate n (Some (Lost fault))
   meant-lost (Stack fault) p alike kind = meant-fault w.config (steady_images w.leaves) d first n fault alike (p.steady (record { steady = sure.steady; agrees = λ meets. sure.agrees })).exact
   meant-lost (DeviceFailed i) p alike kind = let failed = p.any.may.1 in absurd (failed.unsure some-device (sure.never_fail (i - 1) some-device failed.inside p.any.touches.fault))
   meant-lost NoMemory p alike kind = absurd (kind refl)
+
+  -- one of these sectors
+  lost-each : (fault : IoFault) → EachBytes w d first n (Err fault) after → AreAlike w.config d first n → fault ≢ NoMemory → (k : ℕ) → k < n → meant_state (sector w.config (steady_images w.leaves) (mapped d) (first + k)) ≡ Some (Lost fault)
+  lost-each fault p alike kind k low =
+      sym (meant-get (sector w.config (steady_images w.leaves) (mapped d)) first n k low) ∙ ap (λ (l : List SectorState). get_or l k None) (meant-lost fault p alike kind)
+      ∙ get_or-replicate {A = SectorState} n k (Some (Lost fault)) None low
+
+module _ (marks : List Bool) (d first : ℕ) (w : StackRecord) (known : MarksAreMeant marks d w) (sure : AreSure w.config (λ i. stands_on w.config i (mapped d)) w.leaves) (n : ℕ) (after : StackRecord) where
+  abbrev at : ℕ → Outcome
+  at = sector w.config (steady_images w.leaves) (mapped d)
 
   pub meant-piece : (found : Finding) → IsScraped found → IsPieceSurveyed marks d first w (record { count = n; found = found; after = after })
       → states_found n found ≡ meant_states (sector w.config (steady_images w.leaves) (mapped d)) first (length (states_found n found))
   meant-piece (had bytes) scraped p =
       sym (ap (meant_states at first) (length-replicate {A = SectorState} n None) ∙ meant-bytes at first n bytes (p.answered.steady (record { steady = sure.steady; agrees = λ meets. sure.agrees })).exact)
   meant-piece (lost fault) scraped p =
-      sym (ap (meant_states at first) (length-replicate {A = SectorState} n (Some (Lost fault))) ∙ meant-lost fault p.answered p.may.0 p.may.1)
+      sym (ap (meant_states at first) (length-replicate {A = SectorState} n (Some (Lost fault))) ∙ meant-lost d first w sure n after fault p.answered p.may.0 p.may.1)
   meant-piece (again fault) scraped p = refl
   meant-piece (probed behind bytes) scraped p = refl
   meant-piece (trimmed behind fault) scraped p = absurd scraped
@@ -169,7 +184,91 @@ surveys-meant marks d first w (r ∷ more) w' s scraped known sure =
     ap (λ (l : List SectorState). l ++ all_states more) head ∙ ap (λ (l : List SectorState). meant_states at first n ++ l) tail
     ∙ sym (ap (meant_states at first) (length-append (states_of r) (all_states more)) ∙ meant-add at first n m)
 
--- ---- the first pass
+-- ---- the sectors of a scan
+
+-- the state of a sector that was read is what it means, unless it is unscraped
+abbrev pub IsMeantState : SectorState → SectorState → Type 0
+IsMeantState None meant = meant ≡ None
+IsMeantState (Some (Lost fault)) meant = meant ≡ Some (Lost fault)
+IsMeantState (Some (Unscraped fault)) meant = Unit {0}
+
+piece-each : (marks : List Bool) (d first : ℕ) (w : StackRecord) → AreSure w.config (λ i. stands_on w.config i (mapped d)) w.leaves → (n : ℕ) (found : Finding) (after : StackRecord)
+    → IsPieceSurveyed marks d first w (record { count = n; found = found; after = after }) → (k : ℕ) → k < length (states_found n found) → get_or marks (first + k) false ≡ false
+    → IsMeantState (get_or (states_found n found) k None) (meant_state (sector w.config (steady_images w.leaves) (mapped d) (first + k)))
+piece-each marks d first w sure n (had bytes) after p k low new =
+    let few : k < n = omega (arith, low, length-replicate {A = SectorState} n None) in
+    subst (λ (x : SectorState). IsMeantState x (meant_state (sector w.config (steady_images w.leaves) (mapped d) (first + k)))) (sym (get_or-replicate {A = SectorState} n k None None few))
+    (meant-byte (sector w.config (steady_images w.leaves) (mapped d)) first n bytes (p.answered.steady (record { steady = sure.steady; agrees = λ meets. sure.agrees })).exact k few)
+piece-each marks d first w sure n (lost fault) after p k low new =
+    let few : k < n = omega (arith, low, length-replicate {A = SectorState} n (Some (Lost fault))) in
+    subst (λ (x : SectorState). IsMeantState x (meant_state (sector w.config (steady_images w.leaves) (mapped d) (first + k)))) (sym (get_or-replicate {A = SectorState} n k (Some (Lost fault)) None few))
+    (lost-each d first w sure n after fault p.answered p.may.0 p.may.1 k few)
+piece-each marks d first w sure n (again fault) after p k low new = absurd (omega (arith, low))
+piece-each marks d first w sure n (probed behind bytes) after p k low new = absurd (omega (arith, low))
+piece-each marks d first w sure n (trimmed behind fault) after p k low new = elim (cases_lt k behind) [
+  | inl before ↦
+      subst (λ (x : SectorState). IsMeantState x (meant_state (sector w.config (steady_images w.leaves) (mapped d) (first + k))))
+      (sym (get_or_append_left (replicate behind (Some (Unscraped fault))) (replicate (n - behind) (Some (Lost fault))) None k (omega (arith, before, front-length)) ∙ get_or-replicate {A = SectorState} behind k (Some (Unscraped fault)) None before)) tt
+  | inr from ↦
+      let here : first + behind + (k - behind) ≡ first + k = omega (arith, from) in
+      let few : k - behind < n - behind = omega (arith, from, low, both-length, p.may.0) in
+      subst (λ (x : SectorState). IsMeantState x (meant_state (sector w.config (steady_images w.leaves) (mapped d) (first + k))))
+      (sym (get_or-append_right (replicate behind (Some (Unscraped fault))) (replicate (n - behind) (Some (Lost fault))) behind k None front-length from ∙ get_or-replicate {A = SectorState} (n - behind) (k - behind) (Some (Lost fault)) None few))
+      (ap (λ (t : ℕ). meant_state (sector w.config (steady_images w.leaves) (mapped d) t)) (sym here) ∙ lost-each d (first + behind) w sure (n - behind) after fault p.answered p.may.1.0 p.may.1.1 (k - behind) few)
+]
+  where
+    front-length : length (replicate behind (Some (Unscraped fault))) ≡ behind
+    front-length = length-replicate {A = SectorState} behind (Some (Unscraped fault))
+
+    both-length : length (replicate behind (Some (Unscraped fault)) ++ replicate (n - behind) (Some (Lost fault))) ≡ behind + (n - behind)
+    both-length =
+        length-append (replicate behind (Some (Unscraped fault))) (replicate (n - behind) (Some (Lost fault)))
+        ∙ ap₂ (λ (x y : ℕ). x + y) front-length (length-replicate {A = SectorState} (n - behind) (Some (Lost fault)))
+piece-each marks d first w sure n kept after p k low new =
+    absurd (false≢true (sym new ∙ p.marked k (omega (arith, low, length-replicate {A = SectorState} n None))))
+
+pub survey-each : (marks : List Bool) (d first : ℕ) (w : StackRecord) (reads : List PieceRead) (w' : StackRecord) → IsSurveyOver marks d first w reads w' → AreSure w.config (λ i. stands_on w.config i (mapped d)) w.leaves
+    → (k : ℕ) → k < length (all_states reads) → get_or marks (first + k) false ≡ false → IsMeantState (get_or (all_states reads) k None) (meant_state (sector w.config (steady_images w.leaves) (mapped d) (first + k)))
+survey-each marks d first w [] w' s sure k low new = absurd (omega (arith, low))
+survey-each marks d first w (r ∷ more) w' s sure k low new = elim (cases_lt k (length (states_of r))) [
+  | inl here ↦
+      subst (λ (x : SectorState). IsMeantState x (meant_state (sector w.config (steady_images w.leaves) (mapped d) (first + k)))) (sym (get_or_append_left (states_of r) (all_states more) None k here))
+      (piece-each marks d first w sure r.count r.found r.after s.0 k here new)
+  | inr past ↦
+      let left : IsLeft d w r.after = piece-left marks d first w r.count r.found r.after s.0 sure in
+      let n : ℕ = length (states_of r) in
+      let at : first + n + (k - n) ≡ first + k = omega (arith, past) in
+      let few : k - n < length (all_states more) = omega (arith, past, low, length-append (states_of r) (all_states more)) in
+      let rest = survey-each marks d (first + n) r.after more w' s.1 left.sure (k - n) few (ap (λ (t : ℕ). get_or marks t false) at ∙ new) in
+      subst (λ (x : SectorState). IsMeantState x (meant_state (sector w.config (steady_images w.leaves) (mapped d) (first + k)))) (sym (get_or-append_right (states_of r) (all_states more) n k None refl past))
+      (subst (λ (m : SectorState). IsMeantState (get_or (all_states more) (k - n) None) m) (left-state d w r.after (first + n + (k - n)) left ∙ ap (λ (t : ℕ). meant_state (sector w.config (steady_images w.leaves) (mapped d) t)) at) rest)
+]
+
+-- a pass that scrapes leaves none unscraped
+unscraped-piece : (n : ℕ) (found : Finding) (k : ℕ) (fault : IoFault) → IsScraped found → k < length (states_found n found) → get_or (states_found n found) k None ≡ Some (Unscraped fault) → ⊥
+unscraped-piece n (had bytes) k fault scraped low e =
+    let none : None ≡ Some (Unscraped fault) = sym (get_or-replicate {A = SectorState} n k None None (omega (arith, low, length-replicate {A = SectorState} n None))) ∙ e in cc
+unscraped-piece n (lost by) k fault scraped low e =
+    let other : Some (Lost by) ≡ Some (Unscraped fault) = sym (get_or-replicate {A = SectorState} n k (Some (Lost by)) None (omega (arith, low, length-replicate {A = SectorState} n (Some (Lost by))))) ∙ e in cc
+unscraped-piece n (again by) k fault scraped low e = absurd (omega (arith, low))
+unscraped-piece n (probed behind bytes) k fault scraped low e = absurd (omega (arith, low))
+unscraped-piece n (trimmed behind by) k fault scraped low e = absurd scraped
+unscraped-piece n kept k fault scraped low e =
+    let none : None ≡ Some (Unscraped fault) = sym (get_or-replicate {A = SectorState} n k None None (omega (arith, low, length-replicate {A = SectorState} n None))) ∙ e in cc
+
+unscraped-none : (reads : List PieceRead) (k : ℕ) (fault : IoFault) → AreScraped reads → k < length (all_states reads) → get_or (all_states reads) k None ≡ Some (Unscraped fault) → ⊥
+unscraped-none [] k fault scraped low e = absurd (omega (arith, low))
+unscraped-none (r ∷ more) k fault scraped low e = elim (cases_lt k (length (states_of r))) [
+  | inl here ↦ unscraped-piece r.count r.found k fault scraped.0 here (sym (get_or_append_left (states_of r) (all_states more) None k here) ∙ e)
+  | inr past ↦
+      let n : ℕ = length (states_of r) in
+      unscraped-none more (k - n) fault scraped.1 (omega (arith, past, low, length-append (states_of r) (all_states more))) (sym (get_or-append_right (states_of r) (all_states more) n k None refl past) ∙ e)
+]
+
+pub pass-unscraped : (p : Pass) (reads : List PieceRead) (k : ℕ) (fault : IoFault) → ArePassPieces false p reads → k < length (all_states reads) → get_or (all_states reads) k None ≡ Some (Unscraped fault) → ⊥
+pass-unscraped p reads k fault pieces low e = unscraped-none reads k fault (passes-scrape p reads pieces) low e
+
+-- ---- a pass in large pieces
 
 -- a sector that is marked lies in one of two lists
 marked-apart : (xs ys : List Bool) (k : ℕ) → get_or (xs ++ ys) k false ≡ true → ((k < length xs) × (get_or xs k false ≡ true)) ⊎ ((j : ℕ) × (k ≡ length xs + j) × (get_or ys j false ≡ true))
@@ -225,6 +324,48 @@ skims-known before d first w (s ∷ more) w' h sure =
     let left : IsLeft d w s.piece.after = piece-left before d first w s.piece.count s.piece.found s.piece.after h.0 sure in
     let rest = skims-known before d (first + length (marks_of s)) s.piece.after more w' h.1 left.sure in
     (then-left d w s.piece.after w' left rest.0, skim-known before d first w s more h.0 sure left rest.1)
+
+-- a piece of it that wasn't read failed
+failed-found : (p : Pass) (first wanted n : ℕ) (found : Finding) (skip : ℕ) → IsSkimFound p first wanted n found skip → is_read found ≡ false → is_failed found ≡ true
+failed-found p first wanted n (had bytes) skip h e = absurd (false≢true (sym e))
+failed-found p first wanted n (lost fault) skip h e = absurd h
+failed-found p first wanted n (again fault) skip h e = refl
+failed-found p first wanted n (probed behind bytes) skip h e = absurd h
+failed-found p first wanted n (trimmed behind fault) skip h e = absurd h
+failed-found p first wanted n kept skip h e = absurd (false≢true (sym e))
+
+-- of a pass that skips nothing each sector was read, now or before, or is in a failed piece
+pub unskipped-failed : (p : Pass) (first : ℕ) (skims : List Skim) → AreSkims 0 p first 0 skims → (k : ℕ) → k < length (skim_marks skims) → get_or (skim_marks skims) k false ≡ false → get_or (skim_failed skims) k false ≡ true
+unskipped-failed p first [] h k low e = absurd (omega (arith, low))
+unskipped-failed p first (s ∷ more) h k low e = elim (cases_lt k s.piece.count) [
+  | inl here ↦
+      let read : is_read s.piece.found ≡ false = sym (get_or_append_left (marks_of s) (skim_marks more) false k (omega (arith, here, marks-length)) ∙ get_or_append_left (replicate s.piece.count (is_read s.piece.found)) (replicate s.skip false) false k (omega (arith, here, length-replicate {A = Bool} s.piece.count (is_read s.piece.found))) ∙ get_or-replicate s.piece.count k (is_read s.piece.found) false here) ∙ e in
+      get_or_append_left (failed_of s) (skim_failed more) false k (omega (arith, here, failed-length))
+      ∙ get_or_append_left (replicate s.piece.count (is_failed s.piece.found)) (replicate s.skip false) false k (omega (arith, here, length-replicate {A = Bool} s.piece.count (is_failed s.piece.found)))
+      ∙ get_or-replicate s.piece.count k (is_failed s.piece.found) false here ∙ failed-found p first 0 s.piece.count s.piece.found s.skip h.0 read
+  | inr past ↦
+      let few : k - s.piece.count < length (skim_marks more) = omega (arith, past, low, marks-length, length-append (marks_of s) (skim_marks more)) in
+      let mark : get_or (skim_marks more) (k - s.piece.count) false ≡ false = sym (get_or-append_right (marks_of s) (skim_marks more) s.piece.count k false marks-length past) ∙ e in
+      get_or-append_right (failed_of s) (skim_failed more) s.piece.count k false failed-length past ∙ unskipped-failed p (first + length (marks_of s)) more later (k - s.piece.count) few mark
+]
+  where
+    all : AreUnskipped (s ∷ more)
+    all = sweeps-all p first (s ∷ more) h
+
+    later : AreSkims 0 p (first + length (marks_of s)) 0 more
+    later = subst (λ (w : ℕ). AreSkims 0 p (first + length (marks_of s)) w more) (still-none s.piece.found) h.1
+
+    marks-length : length (marks_of s) ≡ s.piece.count
+    marks-length =
+        length-append (replicate s.piece.count (is_read s.piece.found)) (replicate s.skip false)
+        ∙ omega (arith, all.0, length-replicate {A = Bool} s.piece.count (is_read s.piece.found), length-replicate {A = Bool} s.skip false)
+
+    failed-length : length (failed_of s) ≡ s.piece.count
+    failed-length =
+        length-append (replicate s.piece.count (is_failed s.piece.found)) (replicate s.skip false)
+        ∙ omega (arith, all.0, length-replicate {A = Bool} s.piece.count (is_failed s.piece.found), length-replicate {A = Bool} s.skip false)
+
+-- ---- what a scan leaves
 
 pub survey-left : (before : List Bool) (d first : ℕ) (w : StackRecord) (reads : List PieceRead) (w' : StackRecord) → IsSurveyOver before d first w reads w' → AreSure w.config (λ i. stands_on w.config i (mapped d)) w.leaves → IsLeft d w w'
 survey-left before d first w [] w' s sure = same-left d w w' s sure
