@@ -48,13 +48,13 @@ read-size w file sectors made (inr new) = unread-size sectors made new.unread
 
 -- ---- the passes
 
-silent-size : {S : Type 0} (k : Kept S) (phase : Phase) (old new : AfterTurns S) → IsSilentPass k phase old new → length (marks old.left.map) ≡ k.sectors → length (marks new.left.map) ≡ k.sectors
+pub silent-size : {S : Type 0} (k : Kept S) (phase : Phase) (old new : AfterTurns S) → IsSilentPass k phase old new → length (marks old.left.map) ≡ k.sectors → length (marks new.left.map) ≡ k.sectors
 silent-size k phase old new p size = size-turns k phase (pass_from phase k.sectors old p.0) p.3 size
 
 sweeps-size : {S : Type 0} (k : Kept S) (old new : AfterTurns S) → SweepsInTurns k old new → length (marks old.left.map) ≡ k.sectors → length (marks new.left.map) ≡ k.sectors
 sweeps-size k old new p size = silent-size k Sweep p.between new p.sweeps (silent-size k Skim old p.between p.skims size)
 
-kept-size : {S : Type 0} (k : Kept S) (phase : Phase) (old new : AfterTurns S) (found : List LostRun) → KeepsTurns k phase old new found → length (marks old.left.map) ≡ k.sectors → length (marks new.left.map) ≡ k.sectors
+pub kept-size : {S : Type 0} (k : Kept S) (phase : Phase) (old new : AfterTurns S) (found : List LostRun) → KeepsTurns k phase old new found → length (marks old.left.map) ≡ k.sectors → length (marks new.left.map) ≡ k.sectors
 kept-size k phase old new found t size = ap (λ (l : List Run). length (marks l)) t.map ∙ size-turns k phase (pass_from phase k.sectors old nothing) t.reads size
 
 steps-size : {S : Type 0} (k : Kept S) (old : AfterTurns S) {n : ℕ} {new : AfterTurns S} → Steps (IsSilentTurns k) old n new → length (marks old.left.map) ≡ k.sectors → length (marks new.left.map) ≡ k.sectors

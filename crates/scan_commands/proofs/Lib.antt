@@ -19,4 +19,5 @@ mod FoundRunLemmas
 mod MeantTurnLemmas
 mod MeantPassLemmas
 mod MeantStateLemmas
+mod PlainPassLemmas
 mod MapUseLemmas

@@ -21,7 +21,8 @@ use Rattle.stack_recovery.specs.PassPieces.{ArePassPieces, Scanned, pass_over}
 use Rattle.stack_recovery.specs.Recoveries.{GoesOverTo, Sides, is_had, is_lost}
 use Rattle.stack_recovery.specs.Skims.{AreSkims}
 use Rattle.stack_recovery.specs.Surveys.{SectorState, all_states}
-use Rattle.stack_recovery.proofs.lemmas.MeantLemmas.{IsLeft, IsMeantState, pass-unscraped, skims-known, survey-each, survey-left, unskipped-failed}
+use Rattle.stack_recovery.proofs.lemmas.MeantLemmas.{IsLeft, IsMeantState, pass-unscraped, survey-each, survey-left}
+use Rattle.stack_recovery.proofs.lemmas.SkimMeantLemmas.{skims-known, unskipped-failed}
 use Rattle.scan_commands.specs.MapFiles.{MapPathRecord}
 use Rattle.scan_commands.specs.declared.phase.Phase.{Phase}
 use Rattle.scan_commands.specs.declared.phase.Phase.TheVariants.{Retry, Scrape, Skim, Sweep, Trim}

@@ -69,7 +69,7 @@ map_at path kind = option_map (λ p. map_path p kind no_tail) path
 
 -- the file whose maps have these bytes after the device's sectors
 abbrev pub with_tail : Option MapPathRecord → Tail → Option MapPathRecord
-with_tail file tail = option_map (λ f. record f { tail = tail }) file
+with_tail file tail = option_map (λ (f : MapPathRecord). record f { tail = tail }) file
 
 -- the map begins as the one in the file, whose text has at most 16 MiB
 pub record IsMapTold {S D : Type 0} (w : Calls S D) (file : MapPathRecord) (sectors : ℕ) (made : ParsedMap) : Type 0 where

@@ -2,4 +2,5 @@
 pub mod JoinLemmas
 pub mod LostLemmas
 pub mod MeantLemmas
+pub mod SkimMeantLemmas
 pub mod WritingLemmas
