@@ -230,16 +230,16 @@ module _ {S : Type 0} (k : Kept S) (phase : Phase) (old new : Progressed S) (t :
       single-trims : (b : Bool) → is_trim phase ≡ b → (fault : IoFault) → is_same before (step_of phase).takes ≡ true → get_or states s None ≡ Some (LeftUnscraped fault) → SingleStep phase before after means (get_or states s None)
       single-trims true trims fault taken e =
           single_unscraped trims
-          (now-not sure s low taken (made-get ∙ ap is_had e) ∙ cond-false (get_or (losts t.made.map) s false) (step_of phase).failed (step_of phase).left (bad-get ∙ ap is_lost e) ∙ trim-leaves phase trims)
+          (now-not s low taken (made-get ∙ ap is_had e) ∙ cond-false (get_or (losts t.made.map) s false) (step_of phase).failed (step_of phase).left (bad-get ∙ ap is_lost e) ∙ trim-leaves phase trims)
       single-trims false trims fault taken e =
           let p = pass_over old.sides.stack.config k.scan.d marked in
           absurd (pass-unscraped p goes.reads s fault (subst (λ (b : Bool). ArePassPieces b p goes.reads) trims goes.pieces) (omega (arith, low, states-all)) e)
 
       by-state : (x : SectorState) → get_or states s None ≡ x → IsMeantState x means → is_same before (step_of phase).takes ≡ true → SingleStep phase before after means (get_or states s None)
-      by-state None e meant taken = single_had (now-had sure s low taken (made-get ∙ ap is_had e)) meant e
+      by-state None e meant taken = single_had (now-had s low taken (made-get ∙ ap is_had e)) meant e
       by-state (Some (Lost fault)) e meant taken =
           single_lost fault
-          (now-not sure s low taken (made-get ∙ ap is_had e) ∙ cond-true (get_or (losts t.made.map) s false) (step_of phase).failed (step_of phase).left (bad-get ∙ ap is_lost e) ∙ single-fails phase single)
+          (now-not s low taken (made-get ∙ ap is_had e) ∙ cond-true (get_or (losts t.made.map) s false) (step_of phase).failed (step_of phase).left (bad-get ∙ ap is_lost e) ∙ single-fails phase single)
           meant e
       by-state (Some (LeftUnscraped fault)) e meant taken = single-trims (is_trim phase) refl fault taken e
 
@@ -247,15 +247,15 @@ module _ {S : Type 0} (k : Kept S) (phase : Phase) (old new : Progressed S) (t :
       state-meant taken =
           let here : 0 + s ≡ s = omega arith in
           subst (λ (n : ℕ). IsMeantState (get_or states s None) (meant_at k.scan.d old.sides.stack n)) here
-          (survey-each marked k.scan.d 0 old.sides.stack goes.reads t.left.stack goes.survey sure s (omega (arith, low, states-all)) (ap (λ (n : ℕ). get_or marked n false) here ∙ fresh sure s low ∙ ap not taken))
+          (survey-each marked k.scan.d 0 old.sides.stack goes.reads t.left.stack goes.survey sure s (omega (arith, low, states-all)) (ap (λ (n : ℕ). get_or marked n false) here ∙ fresh s low ∙ ap not taken))
 
       state-none : is_same before (step_of phase).takes ≡ false → get_or states s None ≡ None
       state-none other =
           let here : 0 + s ≡ s = omega arith in
-          survey-marked marked k.scan.d 0 old.sides.stack goes.reads t.left.stack s goes.survey (ap (λ (n : ℕ). get_or marked n false) here ∙ fresh sure s low ∙ ap not other)
+          survey-marked marked k.scan.d 0 old.sides.stack goes.reads t.left.stack s goes.survey (ap (λ (n : ℕ). get_or marked n false) here ∙ fresh s low ∙ ap not other)
 
       single-each : (taken : Bool) → is_same before (step_of phase).takes ≡ taken → SingleStep phase before after means (get_or states s None)
-      single-each false other = single_other other (now-other sure s low other) (state-none other)
+      single-each false other = single_other other (now-other s low other) (state-none other)
       single-each true taken = by-state (get_or states s None) refl (state-meant taken) taken
 
       pub single-turn : SingleStep phase before after means (get_or states s None)
