@@ -32,8 +32,9 @@ import tempfile
 
 sys.dont_write_bytecode = True
 TOP = os.path.dirname(os.path.dirname(os.path.dirname(os.path.realpath(__file__))))
-sys.path.insert(0, f"{TOP}/scripts/model")
+sys.path += [f"{TOP}/scripts/lib", f"{TOP}/scripts/model"]
 
+from cases import Case, lines_of, read_file  # noqa: E402
 from command_line import Files, binding, bound, cut_words, features_without  # noqa: E402
 from configuration import Refused  # noqa: E402
 from failing_recovery import Recovery, Unlike as Wrong  # noqa: E402
@@ -53,10 +54,6 @@ MEBIBYTE = 1 << 20
 UNWRITTEN = b"dmstack: standard output failed\n"
 
 
-def lines_of(text):
-    return text.split(b"\n")[:-1]
-
-
 def allows(reply, line):
     return reply == line if isinstance(reply, bytes) else reply.allows(line)
 
@@ -73,53 +70,39 @@ def sum_of(data):
     return b"%08x" % it
 
 
-def read_file(path):
-    with open(path, "rb") as it:
-        return it.read()
-
-
-class Case:
-    """A case in a folder of its own, from which each run starts anew."""
+class Failing(Case):
+    """A case whose calls fail."""
 
     def __init__(self, name, program, room, library):
-        self.folder, self.program, self.room, self.library = f"{FOLDER}/{name}", program, room, library
-        self.words = lines_of(read_file(f"{self.folder}/args"))
-        self.given = read_file(f"{self.folder}/stdin") if os.path.exists(f"{self.folder}/stdin") else b""
-        self.start = f"{room}/start"
-        os.mkdir(self.start)
-        if os.path.exists(f"{self.folder}/before"):
-            path = {**os.environ, "PYTHONPATH": f"{TOP}/scripts/model", "PYTHONDONTWRITEBYTECODE": "1"}
-            subprocess.run(["bash", f"{self.folder}/before"], cwd=self.start, env=path, check=True)
+        super().__init__(f"{FOLDER}/{name}", room)
+        self.program, self.library = program, library
         # Refusals of memory that no answer shows: std asks ahead for room for the words, and asks again where it is refused; for
         # assemble also at `x86-64` behind `root-`, twice, and at `-verity` behind both.
         self.unseen, self.most_unseen = 0, 4 if self.words[0] == b"assemble" else 1
         self.recovery, self.repair = None, None
         self.kinds = ["memory", "device", "short", "interrupted"]
-        self.kinds += ["input", "text", "output"] * os.path.exists(f"{self.folder}/streams")
-        if os.path.exists(f"{self.folder}/kinds"):
-            self.kinds = read_file(f"{self.folder}/kinds").decode().split()
+        self.kinds += ["input", "text", "output"] * self.has("streams")
+        if self.has("kinds"):
+            self.kinds = self.text("kinds").decode().split()
         # If memory runs out for keeping a checked block, the answer is that of the block as it was read.
-        before = read_file(f"{self.folder}/before") if os.path.exists(f"{self.folder}/before") else b""
-        self.may_keep = b" verity " in self.given + before and b"--cache=0" not in self.words
-        self.calls = lines_of(read_file(f"{self.folder}/calls")) if os.path.exists(f"{self.folder}/calls") else None
+        self.may_keep = b" verity " in self.given + self.text("before") and b"--cache=0" not in self.words
+        self.calls = lines_of(self.text("calls")) if self.has("calls") else None
 
     def is_session(self):
         return self.words[0] == b"session"
 
-    def run(self, kind="", number=0, given=None, again=False):
+    def fail(self, kind="", number=0, given=None, again=False):
         """The output, the status, and what failed (or None), with the call of that number failing: which call, of which file,
         and the sectors asked for until then."""
-        folder, met = f"{self.room}/files", f"{self.room}/met"
+        met = f"{self.room}/met"
         if not again:
-            shutil.rmtree(folder, ignore_errors=True)
-            shutil.copytree(self.start, folder)
+            self.renew()
         if os.path.exists(met):
             os.remove(met)
         failing = {"LD_PRELOAD": self.library, "FAIL_KIND": kind, "FAIL": str(number), "FAIL_MET": met}
         if kind == "memory":
             failing = {"LD_PRELOAD": self.library, "REFUSE": str(number), "REFUSE_MET": met}
-        done = subprocess.run([self.program, *self.words], input=self.given if given is None else given, cwd=folder,
-                              env={**os.environ, **failing}, capture_output=True, timeout=20, check=False)
+        done = self.run(self.program, failing, given)
         told = b""
         if kind == "output" and os.path.exists(met):
             # The last line, that sectors are lost, is repeated there.
@@ -224,7 +207,7 @@ class Modelled:
         """What follows a line that met a device's failure, where the files were asked for so many sectors by then: replies and
         files."""
         given = b"\n".join(self.lines[: number + 1]) + b"\n"
-        self.case.run(kind, call, given)
+        self.case.fail(kind, call, given)
         session, nodes = self.state(number)
         later = self.states[number + 1][1]
         for name, node in nodes.items():
@@ -285,7 +268,7 @@ def check_session(case, model, kind, number, ran):
         raise Wrong(f"line {failing + 1}: {lines[at : at + 1]} in place of {wanted}")
     ends = model.after_memory(failing) if kind == "memory" else [model.after_device(failing, kind, number, what[2:])]
     if kind == "device":
-        case.run(kind, number)
+        case.fail(kind, number)
     held = {name: read_file(f"{case.room}/files/{name.decode()}") for name in model.nodes}
     for replies, nodes in ends:
         if all_allow(replies, lines[at + 1 :]) and all(held[name] == node for name, node in nodes.items()):
@@ -365,7 +348,7 @@ def check_command(case, plain, kind, ran):
             check_unfinished(case)
         if case.words[0] == b"assemble":
             check_table(case)
-    again = case.run(again=True)
+    again = case.fail(again=True)
     if again[:2] != plain[:2]:
         raise Wrong(f"repeated: status {again[1]}, {again[0][-200:]}")
 
@@ -373,7 +356,7 @@ def check_command(case, plain, kind, ran):
 def sweep(case, kind, check):
     """How many calls of a kind there were, each of which failed in a run of its own."""
     for number in range(1, MOST):
-        ran = case.run(kind, number)
+        ran = case.fail(kind, number)
         if ran[2] is None:
             if kind == "device" and case.calls is not None and len(case.calls) != number - 1:
                 raise Wrong(f"{number - 1} calls, and not the {len(case.calls)} of the file calls")
@@ -389,7 +372,7 @@ def sweep(case, kind, check):
 
 def check_case(case):
     """How many calls of each kind failed."""
-    plain = case.run()
+    plain = case.fail()
     if case.words[0] == b"format":
         case.image = read_file(f"{case.room}/files/{case.words[-1].decode()}")
     if case.words[0] == b"assemble":
@@ -429,7 +412,7 @@ def main():
             room = f"{place}/{name}"
             os.mkdir(room)
             try:
-                met = check_case(Case(name, program, room, library))
+                met = check_case(Failing(name, program, room, library))
                 if not next(iter(met.values())):
                     raise Wrong("no call failed")
                 print(f"{name}: " + ", ".join(f"{kind} {count}" for kind, count in met.items()), flush=True)

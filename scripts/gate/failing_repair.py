@@ -85,7 +85,7 @@ class Repair:
             good = status == 1 and rest == [REFUSED] and mended == wanted
         if not good:
             raise Unlike(f"status {status}, {output[-200:]}")
-        return self.check_again(self.case.run(again=True))
+        return self.check_again(self.case.fail(again=True))
 
     def is_read_around(self, mended, rest, status):
         """What couldn't be read once, at most one good block, was sought elsewhere, or stays lost: as the model says of what is left.

@@ -83,7 +83,7 @@ class Update(Repair):
             states |= {self.old} if is_untouched and rest == [REFUSED] else set()
         if not good or self.superblock() not in states:
             raise Unlike(f"status {status}, {output[-200:]}, a superblock that begins with {self.superblock()[:8]}")
-        return self.check_again(self.case.run(again=True))
+        return self.check_again(self.case.fail(again=True))
 
     def ends_on_device(self, call, mended, rest, status):
         """Whether this is an end of a run in which a read, a write or a sync failed, and the superblocks that may be left then."""

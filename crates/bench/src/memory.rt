@@ -1,4 +1,4 @@
-//! Calls that no command makes. Each is repeated if it runs out of memory; `scripts/gate/refuse_memory.sh` refuses their
+//! Calls that no command makes. Each is repeated if it runs out of memory; `scripts/gate/refuse_memory.py` refuses their
 //! allocations.
 ghost use Rattle.std.specs.Prelude.{◌≡◌};
 

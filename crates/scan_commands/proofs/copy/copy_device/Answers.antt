@@ -4,6 +4,7 @@ use Rattle.stack_files.specs.NamedDevices.{device_place}
 use Rattle.scan_commands.specs.Counting.{listed_by}
 use Rattle.scan_commands.proofs.OpeningLemmas.{err-from}
 use Rattle.scan_commands.proofs.copy.copy_device.Goals as goal
+use Rattle.scan_commands.proofs.copy.copy_device.Goals.{in-Some-4, in-None-4}
 
 pub copy_synced-left-requires : goal.copy_synced-left-requires
 copy_synced-left-requires g c = record { device = c.in_ok-stack.ensures.there; room = c.in_ok-stack.ensures.room; allowed = c.in_ok-stack.ensures.writable }
@@ -110,16 +111,31 @@ returns-in-Ok-clause-noted g c = inl (
 )
 
 pub returns-clause-noted : goal.returns-clause-noted
-returns-clause-noted g c = inl (
-  c.in_ok-stack.stack,
-  record {
-    d = c.in_ok-stack.device.0;
-    image = c.in_ok-stack.image;
-    used = c.in_ok-used.used;
-    first = c.use_map_beside.new.images;
-    between = c.open_with_room.new.images;
-    map_used = rw c.map_plan-map.ensures at c.in_ok-used.ensures.ok;
-    found = rw c.source_beside-read.ensures at c.in_ok-stack.ensures.ok;
-  },
-  rw c.config.ensures.value at c.note_unchecked.ensures.noted,
-)
+returns-clause-noted g c = elim c.match-left-4.branch [
+  | in-Some-4 w ↦ rw w.output-is (inl (
+    c.in_ok-stack.stack,
+    record {
+      d = c.in_ok-stack.device.0;
+      image = c.in_ok-stack.image;
+      used = c.in_ok-used.used;
+      first = c.use_map_beside.new.images;
+      between = c.open_with_room.new.images;
+      map_used = rw c.map_plan-map.ensures at c.in_ok-used.ensures.ok;
+      found = rw c.source_beside-read.ensures at c.in_ok-stack.ensures.ok;
+    },
+    rw c.config.ensures.value at c.note_unchecked.ensures.noted,
+  ))
+  | in-None-4 w ↦ rw w.output-is (inl (
+    c.in_ok-stack.stack,
+    record {
+      d = c.in_ok-stack.device.0;
+      image = c.in_ok-stack.image;
+      used = c.in_ok-used.used;
+      first = c.use_map_beside.new.images;
+      between = c.open_with_room.new.images;
+      map_used = rw c.map_plan-map.ensures at c.in_ok-used.ensures.ok;
+      found = rw c.source_beside-read.ensures at c.in_ok-stack.ensures.ok;
+    },
+    rw c.config.ensures.value at c.note_unchecked.ensures.noted,
+  ))
+]

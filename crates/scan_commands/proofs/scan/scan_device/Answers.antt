@@ -8,6 +8,7 @@ use Rattle.scan_commands.specs.declared.recovering_fault.RecoveringFault.TheVari
 use Rattle.scan_commands.proofs.OpeningLemmas.{err-from}
 use Rattle.scan_commands.proofs.ReportLemmas.{reports-more, unreported-more}
 use Rattle.scan_commands.proofs.scan.scan_device.Goals as goal
+use Rattle.scan_commands.proofs.scan.scan_device.Goals.{in-Some-2, in-None-2}
 
 pub new-out-requires : goal.new-out-requires
 new-out-requires g c =
@@ -86,15 +87,29 @@ returns-in_err-stack-clause-noted g c =
     inr ((Stack c.in_err-stack.field-0.0, inr (record { used = c.in_ok-used.used; first = c.use_map.new.images; map_used = rw c.map_plan.ensures at c.in_ok-used.ensures.ok; fails = c.in_err-stack.ensures.err })), refl)
 
 pub returns-clause-noted : goal.returns-clause-noted
-returns-clause-noted g c = inl (
-  c.in_ok-stack.stack,
-  record {
-    d = c.in_ok-stack.device.0;
-    used = c.in_ok-used.used;
-    first = c.use_map.new.images;
-    between = c.open_source.new.images;
-    map_used = rw c.map_plan.ensures at c.in_ok-used.ensures.ok;
-    found = c.in_ok-stack.ensures.ok;
-  },
-  rw c.config.ensures.value at c.note_unchecked.ensures.noted,
-)
+returns-clause-noted g c = elim c.match-passing-2.branch [
+  | in-Some-2 w ↦ rw w.output-is (inl (
+    c.in_ok-stack.stack,
+    record {
+      d = c.in_ok-stack.device.0;
+      used = c.in_ok-used.used;
+      first = c.use_map.new.images;
+      between = c.open_source.new.images;
+      map_used = rw c.map_plan.ensures at c.in_ok-used.ensures.ok;
+      found = c.in_ok-stack.ensures.ok;
+    },
+    rw c.config.ensures.value at c.note_unchecked.ensures.noted,
+  ))
+  | in-None-2 w ↦ rw w.output-is (inl (
+    c.in_ok-stack.stack,
+    record {
+      d = c.in_ok-stack.device.0;
+      used = c.in_ok-used.used;
+      first = c.use_map.new.images;
+      between = c.open_source.new.images;
+      map_used = rw c.map_plan.ensures at c.in_ok-used.ensures.ok;
+      found = c.in_ok-stack.ensures.ok;
+    },
+    rw c.config.ensures.value at c.note_unchecked.ensures.noted,
+  ))
+]
