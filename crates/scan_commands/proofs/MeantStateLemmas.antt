@@ -267,13 +267,13 @@ states-meant relations state old new t m counts r scrapes sure =
     ext_get_or None (joined_states 0 (statuses made) rescued.known rescued.last.found) (meant_states at 0 sectors)
     (joined-length 0 (statuses made) rescued.known rescued.last.found ∙ all ∙ sym (meant-length at 0 sectors))
     (λ s low.
-        let few : s < sectors = omega (arith, low, joined-length 0 (statuses made) rescued.known rescued.last.found, all) in
-        let here : 0 + s ≡ s = omega arith in
-        let unread : status_in first s ≡ Untried = ap (λ (l : List Status). get_or l s Untried) r.read.1.0 ∙ get_or-replicate sectors s Untried Untried few in
-        let one = skim-step (status_in first s) (status_in rescued.large.between s) (meant_at t.d w s) unread (large-after k w refl scrapes Skim first rescued.large.between rescued.large.skims refl (λ e. let clash : Skim ≡ Sweep = e in cc) begun s few) in
-        let two = sweep-step (status_in rescued.large.between s) (status_in rescued.swept s) (meant_at t.d w s) one (large-after k w refl scrapes Sweep rescued.large.between rescued.swept rescued.large.sweeps refl (λ e. refl) skimmed s few) in
-        let three = trim-each k w refl scrapes rescued.swept rescued.between rescued.known rescued.trims swept s few two in
-        let four = steps-each k w refl scrapes rescued.between trimmed s few (state_in rescued.known s) three rescued.again.0 in
-        joined-at 0 (statuses made) rescued.known rescued.last.found s (omega (arith, few, all)) ∙ ap (joined_state (get_or (statuses made) s Untried) rescued.known rescued.last.found) here
-        ∙ last-each k w refl scrapes rescued.passes rescued.known rescued.left m.old.printed new m.new counts rescued.last left s few four
-        ∙ sym (meant-get at 0 sectors s few ∙ ap (λ (n : ℕ). meant_at t.d w n) here))
+    let few : s < sectors = omega (arith, low, joined-length 0 (statuses made) rescued.known rescued.last.found, all) in
+    let here : 0 + s ≡ s = omega arith in
+    let unread : status_in first s ≡ Untried = ap (λ (l : List Status). get_or l s Untried) r.read.1.0 ∙ get_or-replicate sectors s Untried Untried few in
+    let one = skim-step (status_in first s) (status_in rescued.large.between s) (meant_at t.d w s) unread (large-after k w refl scrapes Skim first rescued.large.between rescued.large.skims refl (λ e. let clash : Skim ≡ Sweep = e in cc) begun s few) in
+    let two = sweep-step (status_in rescued.large.between s) (status_in rescued.swept s) (meant_at t.d w s) one (large-after k w refl scrapes Sweep rescued.large.between rescued.swept rescued.large.sweeps refl (λ e. refl) skimmed s few) in
+    let three = trim-each k w refl scrapes rescued.swept rescued.between rescued.known rescued.trims swept s few two in
+    let four = steps-each k w refl scrapes rescued.between trimmed s few (state_in rescued.known s) three rescued.again.0 in
+    joined-at 0 (statuses made) rescued.known rescued.last.found s (omega (arith, few, all)) ∙ ap (joined_state (get_or (statuses made) s Untried) rescued.known rescued.last.found) here
+    ∙ last-each k w refl scrapes rescued.passes rescued.known rescued.left m.old.printed new m.new counts rescued.last left s few four
+    ∙ sym (meant-get at 0 sectors s few ∙ ap (λ (n : ℕ). meant_at t.d w n) here))

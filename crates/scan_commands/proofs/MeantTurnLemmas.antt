@@ -56,7 +56,7 @@ pub data SingleStep (phase : Phase) (before after : Status) (meant found : Secto
   single_lost : (fault : IoFault) → after ≡ Bad → meant ≡ Some (Lost fault) → found ≡ Some (Lost fault) → SingleStep phase before after meant found
   single_unscraped : is_trim phase ≡ true → after ≡ Unscraped → SingleStep phase before after meant found
 
-large-takes : (phase : Phase) → is_large phase ≡ true → (step_of phase).takes ≡ Untried
+pub large-takes : (phase : Phase) → is_large phase ≡ true → (step_of phase).takes ≡ Untried
 large-takes Skim large = refl
 large-takes Sweep large = refl
 large-takes Trim large = absurd (false≢true large)
@@ -236,12 +236,12 @@ module _ {S : Type 0} (k : Kept S) (phase : Phase) (old new : Progressed S) (t :
           absurd (pass-unscraped p goes.reads s fault (subst (λ (b : Bool). ArePassPieces b p goes.reads) trims goes.pieces) (omega (arith, low, states-all)) e)
 
       by-state : (x : SectorState) → get_or states s None ≡ x → IsMeantState x means → is_same before (step_of phase).takes ≡ true → SingleStep phase before after means (get_or states s None)
-      by-state None e meant taken = single_had (now-had s low taken (made-get ∙ ap is_had e)) meant e
-      by-state (Some (Lost fault)) e meant taken =
+      by-state None e holds taken = single_had (now-had s low taken (made-get ∙ ap is_had e)) holds e
+      by-state (Some (Lost fault)) e holds taken =
           single_lost fault
           (now-not s low taken (made-get ∙ ap is_had e) ∙ cond-true (get_or (losts t.made.map) s false) (step_of phase).failed (step_of phase).left (bad-get ∙ ap is_lost e) ∙ single-fails phase single)
-          meant e
-      by-state (Some (LeftUnscraped fault)) e meant taken = single-trims (is_trim phase) refl fault taken e
+          holds e
+      by-state (Some (LeftUnscraped fault)) e holds taken = single-trims (is_trim phase) refl fault taken e
 
       state-meant : is_same before (step_of phase).takes ≡ true → IsMeantState (get_or states s None) means
       state-meant taken =

@@ -280,12 +280,12 @@ stops-reading k Retry now span end before new recovery.Output next wanted e = (
 unwritten : {S : Type 0} (k : Kept S) (phase : Phase) (now : Progressed S) (replaces : Replaces S) (path text : List ℕ) (images : S) (new : Sides) (fault : PassFault)
     → ((cause : ReplaceFault) → replaces now.images path text (Err cause) images → IsFileUnreplaced k.replaces k.file now.images cause images)
     → IsUnfailed now.sides new → EndsUnmapped k phase now new → IsMapUnwritten replaces path now.images text images fault → StopsIn k phase now images new fault
-unwritten k phase now replaces path text images new NoMemory kept u r e = (e.0, u, out_of_memory-more largest_print_allocation largest_allocation (omega arith) e.1, inr (inr r))
-unwritten k phase now replaces path text images new (Unread cause) kept u r e = absurd e
-unwritten k phase now replaces path text images new TooLong kept u r e = absurd e
-unwritten k phase now replaces path text images new (NoMap cause) kept u r e = absurd e
-unwritten k phase now replaces path text images new Output kept u r e = absurd e
-unwritten k phase now replaces path text images new (Unwritten cause) kept u r e = (kept cause e, u, r)
+unwritten k phase now replaces path text images new NoMemory replaced u r e = (e.0, u, out_of_memory-more largest_print_allocation largest_allocation (omega arith) e.1, inr (inr r))
+unwritten k phase now replaces path text images new (Unread cause) replaced u r e = absurd e
+unwritten k phase now replaces path text images new TooLong replaced u r e = absurd e
+unwritten k phase now replaces path text images new (NoMap cause) replaced u r e = absurd e
+unwritten k phase now replaces path text images new Output replaced u r e = absurd e
+unwritten k phase now replaces path text images new (Unwritten cause) replaced u r e = (replaced cause e, u, r)
 
 pub stops-unwritten : {S : Type 0} (replaces : Replaces S) (file : Option MapPathRecord) (scan : Scanned) (sectors : ℕ) (phase : Phase) (now : Progressed S) (runs : List Run) (images : S) (new : Sides) (fault : PassFault)
     → IsUnfailed now.sides new → EndsUnmapped (kept_by replaces file scan sectors) phase now new → LeavesMap replaces file scan.no_scrape runs now.images images fault → StopsIn (kept_by replaces file scan sectors) phase now images new fault
