@@ -1,11 +1,13 @@
-use Rattle.std.proofs.Common.{◌≡◌, ℕ, inl, inr, sym, refl, ap, subst, ◌∙◌, option_map}
+use Rattle.std.proofs.Common.{◌≡◌, ℕ, inl, inr, sym, refl, ap, subst, ◌∙◌, option_map, Option}
 use Rattle.std.proofs.lemmas.Result.{IfErr-weaker, IfOk-weaker}
 use Rattle.image_files.specs.Opener.{calls}
 use Rattle.stack_rules.specs.Names.{mapped, size}
 use Rattle.stack_rules.specs.Records.{Configuration}
 use Rattle.scan_commands.specs.declared.phase.Phase.TheVariants.{Trim}
-use Rattle.scan_commands.specs.MapFiles.{BeginsMap, LacksMap, map_path_of, with_tail}
+use Rattle.scan_commands.specs.MapFiles.{BeginsMap, LacksMap, MapPathRecord, map_path_of, with_tail}
 use Rattle.scan_commands.specs.PassesInTurns.{EndsLast, EndsRetries, EndsSweeping, KeepsTurns, RetriesInTurns, SweepsInTurns, after_turns, phase_after}
+use Rattle.stack_recovery.specs.PassPieces.{scanned}
+use Rattle.scan_commands.specs.Turns.{kept}
 use Rattle.scan_commands.proofs.LastPassLemmas.{last-as, last_end-as}
 use Rattle.scan_commands.proofs.PassingLemmas.{can-after, fits-after, kept-as}
 use Rattle.scan_commands.proofs.TurnLemmas.{err-from}
@@ -54,7 +56,7 @@ returns-in_err-swept-clause-err g c =
       found = c.in_ok-map.field-0;
       between = c.begin_map.new.images;
       read = subst (λ (n : ℕ). BeginsMap (calls g.I.Images.relations g.I.Dev.BlockDev.state c.args.images.now c.begin_map.new.images) (option_map map_path_of c.args.file) n c.in_ok-map.field-0) all c.in_ok-map.ensures.ok;
-      ends = inl (kept-as g.I.Images.relations.replaces kept_file _ _ _ _ _ _ _ 0 0 (λ k n. EndsSweeping k (after_turns c.begin_map.new.images c.args.passing.now.stack (g.O.BlockDev.state c.args.passing.now.out) c.in_ok-map.field-0.map) c.read_large_in_turns.new.images swept.stack (g.O.BlockDev.state swept.out) c.in_err-swept.field-0.0) c.with_tail-file.ensures refl refl refl refl c.in_err-swept.ensures.err, refl);
+      ends = inl (subst (λ (f : Option MapPathRecord). EndsSweeping (kept g.I.Images.relations.replaces f (scanned c.args.passing.now.device.0 c.args.passing.now.no_scrape) (size c.args.passing.now.stack.config (mapped c.args.passing.now.device.0))) (after_turns c.begin_map.new.images c.args.passing.now.stack (g.O.BlockDev.state c.args.passing.now.out) c.in_ok-map.field-0.map) c.read_large_in_turns.new.images swept.stack (g.O.BlockDev.state swept.out) c.in_err-swept.field-0.0) c.with_tail-file.ensures c.in_err-swept.ensures.err, refl);
     }))
 
 pub returns-in_err-trimmed-clause-err : goal.returns-in_err-trimmed-clause-err
@@ -72,7 +74,7 @@ returns-in_err-trimmed-clause-err g c =
       read = subst (λ (n : ℕ). BeginsMap (calls g.I.Images.relations g.I.Dev.BlockDev.state c.args.images.now c.begin_map.new.images) (option_map map_path_of c.args.file) n c.in_ok-map.field-0) all c.in_ok-map.ensures.ok;
       ends = inr (record {
         between = before;
-        large = kept-as g.I.Images.relations.replaces kept_file _ _ _ _ _ _ _ 0 0 (λ k n. SweepsInTurns k (after_turns c.begin_map.new.images c.args.passing.now.stack (g.O.BlockDev.state c.args.passing.now.out) c.in_ok-map.field-0.map) before) c.with_tail-file.ensures refl refl refl refl c.in_ok-swept.ensures.ok;
+        large = subst (λ (f : Option MapPathRecord). SweepsInTurns (kept g.I.Images.relations.replaces f (scanned c.args.passing.now.device.0 c.args.passing.now.no_scrape) (size c.args.passing.now.stack.config (mapped c.args.passing.now.device.0))) (after_turns c.begin_map.new.images c.args.passing.now.stack (g.O.BlockDev.state c.args.passing.now.out) c.in_ok-map.field-0.map) before) c.with_tail-file.ensures c.in_ok-swept.ensures.ok;
         later = (
           inl (kept-as g.I.Images.relations.replaces kept_file _ _ _ _ _ _ _ _ _ (λ k n. EndsLast k Trim before c.trim_in_turns.new.images trimmed.stack (g.O.BlockDev.state trimmed.out) c.in_err-trimmed.field-0.0) c.with_tail-file.ensures first.device first.no_scrape first.config first.retries c.in_err-trimmed.ensures.err),
           refl,
@@ -99,7 +101,7 @@ returns-in_err-left-clause-err g c =
       read = subst (λ (n : ℕ). BeginsMap (calls g.I.Images.relations g.I.Dev.BlockDev.state c.args.images.now c.begin_map.new.images) (option_map map_path_of c.args.file) n c.in_ok-map.field-0) all c.in_ok-map.ensures.ok;
       ends = inr (record {
         between = before;
-        large = kept-as g.I.Images.relations.replaces kept_file _ _ _ _ _ _ _ 0 0 (λ k n. SweepsInTurns k (after_turns c.begin_map.new.images c.args.passing.now.stack (g.O.BlockDev.state c.args.passing.now.out) c.in_ok-map.field-0.map) before) c.with_tail-file.ensures refl refl refl refl c.in_ok-swept.ensures.ok;
+        large = subst (λ (f : Option MapPathRecord). SweepsInTurns (kept g.I.Images.relations.replaces f (scanned c.args.passing.now.device.0 c.args.passing.now.no_scrape) (size c.args.passing.now.stack.config (mapped c.args.passing.now.device.0))) (after_turns c.begin_map.new.images c.args.passing.now.stack (g.O.BlockDev.state c.args.passing.now.out) c.in_ok-map.field-0.map) before) c.with_tail-file.ensures c.in_ok-swept.ensures.ok;
         later = (
           inr (record {
             between = between;
@@ -132,7 +134,7 @@ returns-clause-err g c =
       read = subst (λ (n : ℕ). BeginsMap (calls g.I.Images.relations g.I.Dev.BlockDev.state c.args.images.now c.begin_map.new.images) (option_map map_path_of c.args.file) n c.in_ok-map.field-0) all c.in_ok-map.ensures.ok;
       ends = inr (record {
         between = before;
-        large = kept-as g.I.Images.relations.replaces kept_file _ _ _ _ _ _ _ 0 0 (λ k n. SweepsInTurns k (after_turns c.begin_map.new.images c.args.passing.now.stack (g.O.BlockDev.state c.args.passing.now.out) c.in_ok-map.field-0.map) before) c.with_tail-file.ensures refl refl refl refl c.in_ok-swept.ensures.ok;
+        large = subst (λ (f : Option MapPathRecord). SweepsInTurns (kept g.I.Images.relations.replaces f (scanned c.args.passing.now.device.0 c.args.passing.now.no_scrape) (size c.args.passing.now.stack.config (mapped c.args.passing.now.device.0))) (after_turns c.begin_map.new.images c.args.passing.now.stack (g.O.BlockDev.state c.args.passing.now.out) c.in_ok-map.field-0.map) before) c.with_tail-file.ensures c.in_ok-swept.ensures.ok;
         later = (
           inr (record {
             between = between;
@@ -174,7 +176,7 @@ returns-clause-ok g c =
         known = known;
         passes = c.in_ok-left.left.passes;
         left = after;
-        large = kept-as g.I.Images.relations.replaces kept_file _ _ _ _ _ _ _ 0 0 (λ k n. SweepsInTurns k (after_turns c.begin_map.new.images c.args.passing.now.stack (g.O.BlockDev.state c.args.passing.now.out) c.in_ok-map.field-0.map) before) c.with_tail-file.ensures refl refl refl refl c.in_ok-swept.ensures.ok;
+        large = subst (λ (f : Option MapPathRecord). SweepsInTurns (kept g.I.Images.relations.replaces f (scanned c.args.passing.now.device.0 c.args.passing.now.no_scrape) (size c.args.passing.now.stack.config (mapped c.args.passing.now.device.0))) (after_turns c.begin_map.new.images c.args.passing.now.stack (g.O.BlockDev.state c.args.passing.now.out) c.in_ok-map.field-0.map) before) c.with_tail-file.ensures c.in_ok-swept.ensures.ok;
         trims = kept-as g.I.Images.relations.replaces kept_file _ _ _ _ _ _ _ _ _ (λ k n. KeepsTurns k Trim before between known) c.with_tail-file.ensures first.device first.no_scrape first.config first.retries c.in_ok-trimmed.ensures.ok;
         again = kept-as g.I.Images.relations.replaces kept_file _ _ _ _ _ _ _ _ _ (λ k n. RetriesInTurns k n between c.in_ok-left.left.passes after) c.with_tail-file.ensures (left.device ∙ first.device) (left.no_scrape ∙ first.no_scrape) (left.config ∙ first.config) (left.retries ∙ first.retries) c.in_ok-left.ensures.ok;
         last = last-as g.I.Images.relations.replaces kept_file _ c.args.passing.now.no_scrape _ c.args.passing.now.device.0 _ _ (phase_after c.args.passing.now.no_scrape c.in_ok-left.left.passes) _ known _ _ _ _ _ counts c.with_tail-file.ensures (again.device ∙ left.device ∙ first.device) (again.config ∙ left.config ∙ first.config) c.phase_after-phase.ensures refl (rw c.as_slice-known.ensures.value at last);
