@@ -26,7 +26,7 @@ use Rattle.stack_recovery.specs.Recoveries.{Sides}
 use Rattle.scan_commands.specs.Retries.{Steps, no_step, one_more, scan_of}
 use Rattle.stack_recovery.specs.Surveys.{SectorState}
 use Rattle.scan_commands.specs.declared.phase.Phase.{Phase}
-use Rattle.scan_commands.specs.declared.phase.Phase.TheVariants.{Retry, Scrape, Skim, Sweep, Trim}
+use Rattle.scan_commands.specs.declared.phase.Phase.TheVariants.{Retry, Skim, Sweep, Trim}
 use Rattle.scan_commands.specs.Laws.{LostRunsAreUnrecovered, is_in, reported}
 use Rattle.scan_commands.specs.MapFiles.{BeginsMap, Continues, IsMapRead, MapPathRecord, continues, with_tail}
 use Rattle.scan_commands.specs.PassesInTurns.{AfterTurns, IsSilentPass, IsSilentTurns, KeepsTurns, ReportsLast, SweepsInTurns, after_turns, nothing, pass_from, phase_after}

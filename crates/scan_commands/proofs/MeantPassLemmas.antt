@@ -1,10 +1,9 @@
 -- What a pass without a map file makes of each sector, over leaves that are steady and never fail.
-use Rattle.std.proofs.Common.{◌≡◌, ℕ, zero, suc, ◌+◌, ◌-◌, ◌<◌, ◌≤◌, ◌&&◌, min, not, Bool, true, false, List, [], ◌∷◌, ◌++◌, length, get_or, replicate, Option, Some, None, append-nil, refl, sym, ap, ◌∙◌, subst, inl, inr, arith}
+use Rattle.std.proofs.Common.{◌≡◌, ℕ, zero, suc, ◌-◌, ◌<◌, min, not, Bool, true, false, List, [], ◌∷◌, length, get_or, replicate, Option, Some, None, append-nil, refl, sym, ap, ◌∙◌, subst, inl, inr, arith}
 use Rattle.std.specs.List.{list_all}
 use Rattle.std.proofs.lemmas.Bool.{and_parts, cases_lt, false≢true}
 use Rattle.std.proofs.lemmas.List.{get_or-append_right, get_or-replicate, get_or_append_left, length-append, length-replicate}
 use Rattle.rescue_map.specs.declared.map.Run.{Run}
-use Rattle.rescue_map.specs.declared.status.Status.{Status}
 use Rattle.rescue_map.specs.declared.status.Status.TheVariants.{Untried}
 use Rattle.rescue_map.specs.Maps.{marks}
 use Rattle.rescue_map.specs.Stages.{statuses}
@@ -20,7 +19,7 @@ use Rattle.stack_recovery.specs.Surveys.{SectorState, all_states}
 use Rattle.stack_recovery.proofs.lemmas.MeantLemmas.{IsLeft, same-left}
 use Rattle.scan_commands.specs.MapFiles.{MapPathRecord}
 use Rattle.scan_commands.specs.declared.phase.Phase.{Phase}
-use Rattle.scan_commands.specs.declared.phase.Phase.TheVariants.{Skim, Sweep}
+use Rattle.scan_commands.specs.declared.phase.Phase.TheVariants.{Sweep}
 use Rattle.scan_commands.specs.Turns.{IsSkipped, IsTurn, Kept, Progressed, Turns, asked_marks, begins, goes_on, passes, step_of, turn_len}
 use Rattle.scan_commands.proofs.FoundRunLemmas.{reads-later}
 use Rattle.scan_commands.proofs.LostMarkLemmas.{spliced-inside, spliced-size}

@@ -33,14 +33,14 @@ use Rattle.scan_commands.specs.declared.phase.Phase.TheVariants.{Retry, Scrape, 
 use Rattle.scan_commands.specs.Laws.{StatesAreMeant}
 use Rattle.scan_commands.specs.PassesInTurns.{AfterTurns, IsSilentPass, IsSilentTurns, KeepsTurns, ReportsLast, after_turns, nothing, pass_from, phase_after}
 use Rattle.scan_commands.specs.Retries.{Steps, no_step, one_more, scan_of}
-use Rattle.scan_commands.specs.Turns.{Kept, is_trim, kept, step_of}
+use Rattle.scan_commands.specs.Turns.{Kept, kept}
 use Rattle.scan_commands.proofs.FoundRunLemmas.{size-turns}
 use Rattle.scan_commands.proofs.LawLemmas.{kept-size, silent-size}
 use Rattle.scan_commands.proofs.LostSectorLemmas.{joined-at}
 use Rattle.scan_commands.proofs.MapFileLemmas.{unread-size}
 use Rattle.scan_commands.proofs.TurnLemmas.{is_large}
-use Rattle.scan_commands.proofs.MeantPassLemmas.{FindsEach, large-pass, pass-left, single-pass}
-use Rattle.scan_commands.proofs.MeantTurnLemmas.{IsSure, LargeStep, SingleStep, large_failed, large_had, large_left, large_other, meant_at, single_had, single_lost, single_other, single_unscraped}
+use Rattle.scan_commands.proofs.MeantPassLemmas.{large-pass, pass-left, single-pass}
+use Rattle.scan_commands.proofs.MeantTurnLemmas.{LargeStep, SingleStep, large_failed, large_had, large_left, large_other, meant_at, single_had, single_lost, single_other, single_unscraped}
 
 -- ---- the status of a sector after each pass
 

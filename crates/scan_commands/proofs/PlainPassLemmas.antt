@@ -1,9 +1,7 @@
 -- The law that passes without a map file don't call the opener.
-use Rattle.std.proofs.Common.{◌≡◌, ◌⊎◌, ℕ, List, Option, Some, None, Err, refl, sym, ap, ◌∙◌, subst, inl, inr}
+use Rattle.std.proofs.Common.{◌≡◌, ◌⊎◌, ℕ, List, Option, None, refl, ap, ◌∙◌, subst, inl, inr}
 use Rattle.block_device.specs.Device.{Device}
 use Rattle.image_files.specs.Opener.{Opener, calls}
-use Rattle.rescue_map.specs.declared.map.Run.{Run}
-use Rattle.stack_rules.specs.Names.{mapped, size}
 use Rattle.stack_engine.specs.Stacks.{StackRecord}
 use Rattle.stack_recovery.specs.declared.recovery.Counts.{Counts}
 use Rattle.stack_recovery.specs.Listings.{Listed}
@@ -14,8 +12,8 @@ use Rattle.scan_commands.specs.declared.phase.Phase.{Phase}
 use Rattle.scan_commands.specs.declared.phase.Phase.TheVariants.{Skim, Sweep, Trim}
 use Rattle.scan_commands.specs.declared.rescue_fault.PassFault.{PassFault}
 use Rattle.scan_commands.specs.declared.rescue_fault.PassFault.TheVariants.{NoMap, NoMemory, Output, TooLong, Unread, Unwritten}
-use Rattle.scan_commands.specs.Passes.{IsCutShort, Moving, Passes, StopsPass}
-use Rattle.scan_commands.specs.PassesInTurns.{AfterTurns, EndsAfterTrims, EndsLast, EndsLastTurns, EndsLaterTurns, EndsRetries, EndsSilently, EndsSweeping, IsRescueTurnsEnd, IsSilentPass, IsSilentTurns, IsTurnsEnd, KeepsTurns, RefusesRun, SweepsInTurns, nothing, pass_from, phase_after}
+use Rattle.scan_commands.specs.Passes.{Moving, Passes, StopsPass}
+use Rattle.scan_commands.specs.PassesInTurns.{AfterTurns, EndsAfterTrims, EndsLast, EndsLastTurns, EndsLaterTurns, EndsRetries, EndsSilently, EndsSweeping, IsSilentPass, IsSilentTurns, IsTurnsEnd, KeepsTurns, SweepsInTurns, nothing, pass_from, phase_after}
 use Rattle.scan_commands.specs.Retries.{Retried, Steps, no_step, one_more}
 use Rattle.scan_commands.specs.Turns.{IsTurn, Kept, KeepsMap, Progressed, Turns, begins, goes_on, passes}
 use Rattle.scan_commands.specs.TurnEnds.{IsFileUnreplaced, IsPassTurnsEnd, StopsIn}

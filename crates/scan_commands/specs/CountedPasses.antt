@@ -1,5 +1,5 @@
 -- Passes over a device, with the number of blocks that parity restored meanwhile.
-use Rattle.std.specs.Prelude.{◌≡◌, ℕ, ◌-◌, List, Option, option_map}
+use Rattle.std.specs.Prelude.{◌≡◌, ◌-◌, Option, option_map}
 use Rattle.block_device.specs.Device.{Device}
 use Rattle.image_files.specs.Opener.{Calls, Opener, calls}
 use Rattle.scan_commands.specs.declared.map_file.MapPath.{MapPath}

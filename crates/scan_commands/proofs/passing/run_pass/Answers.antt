@@ -1,4 +1,4 @@
-use Rattle.std.proofs.Common.{◌≡◌, ℕ, inl, inr, sym, refl, ap, subst, ◌∙◌, option_map, Option}
+use Rattle.std.proofs.Common.{ℕ, inl, inr, refl, ap, subst, ◌∙◌, option_map, Option}
 use Rattle.std.proofs.lemmas.Result.{IfErr-weaker, IfOk-weaker}
 use Rattle.image_files.specs.Opener.{calls}
 use Rattle.stack_rules.specs.Names.{mapped, size}

@@ -1,4 +1,4 @@
-use Rattle.std.proofs.Common.{◌≡◌, ◌≤◌, ◌<◌, ℕ, suc, IsTrue, None, true, length, inl, inr, refl, sym, ap, ◌∙◌, subst, arith, option_map}
+use Rattle.std.proofs.Common.{◌≤◌, ◌<◌, ℕ, None, true, length, refl, sym, ap, ◌∙◌, subst, arith, option_map}
 use Rattle.stack_rules.specs.Names.{mapped, size}
 use Rattle.stack_rules.specs.Records.{Configuration}
 use Rattle.stack_recovery.specs.PassPieces.{Scanned, scanned}

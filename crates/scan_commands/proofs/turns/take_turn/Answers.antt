@@ -1,4 +1,4 @@
-use Rattle.std.proofs.Common.{arith, ◌≡◌, ◌∙◌, ◌+◌, ◌≤◌, min, inr, ℕ, Bool, true, List, length, replicate, refl, ap, subst, sym, option_map}
+use Rattle.std.proofs.Common.{arith, ◌≡◌, ◌∙◌, ◌+◌, min, inr, ℕ, Bool, true, List, length, replicate, refl, ap, subst, sym, option_map}
 use Rattle.std.proofs.lemmas.List.{length-replicate}
 use Rattle.block_device.specs.Device.{Device}
 use Rattle.rescue_map.specs.declared.stepping.Step.{Step}
