@@ -1,11 +1,11 @@
 #!/usr/bin/env python3
-"""Counts the failing reads of `copy --map` and of GNU ddrescue on five disks with unreadable sectors.
+"""Counts the failing reads of `copy`, with and without `--map`, and of GNU ddrescue on five disks with unreadable sectors.
 
 failing_reads.py PROGRAM: for each disk a line without and one with `--no-scrape` (`-n`): how many reads failed before the last
-64 KiB were read, before the last readable sector was, and in all, of PROGRAM and of ddrescue (`-b 512 -c 128`), and how many sectors
-each lacks, and how many reads fail as each goes on twice by its own map. A line that ends in
-`more` has more than 1.1 times ddrescue's failing reads, or lacks a sector that ddrescue has. Without `--no-scrape` that is a
-failure. Then one of the two goes on by the map and the copy that
+64 KiB were read, before the last readable sector was, and in all, of PROGRAM with a map and without one, and of ddrescue
+(`-b 512 -c 128`), and how many sectors each lacks, and how many reads fail as PROGRAM and ddrescue go on twice by their own maps. A
+line that ends in `more` has more than 1.1 times ddrescue's failing reads, or lacks a sector that ddrescue has. Without
+`--no-scrape` that is a failure. Then one of the two goes on by the map and the copy that
 the other one left with `--no-scrape`, and by a map of the other's whole copy: it must lack the unreadable sectors alone. It needs cc and
 ddrescue.
 """
@@ -103,10 +103,10 @@ def lost(room, path):
 def prepare(room, bad):
     with open(f"{room}/bad", "w") as it:
         it.write("\n".join(map(str, bad)))
-    for path in ("ours", "theirs", "map", "log"):
+    for path in ("ours", "plain", "theirs", "map", "log"):
         if os.path.exists(f"{room}/{path}"):
             os.remove(f"{room}/{path}")
-    for path in ("ours", "theirs"):
+    for path in ("ours", "plain", "theirs"):
         with open(f"{room}/{path}", "w") as it:
             it.truncate(SECTORS * SECTOR)
 
@@ -114,21 +114,24 @@ def prepare(room, bad):
 def commands(program, copy, log, scrapes):
     """The two programs that go on by a map and a copy."""
     options = ([], []) if scrapes else (["--no-scrape"], ["-n"])
-    return ([program, "copy", *options[0], "--map", log, "stack", "a", copy, "D=ro:disk"],
+    kept = ["--map", log] if log else []
+    return ([program, "copy", *options[0], *kept, "stack", "a", copy, "D=ro:disk"],
             ["ddrescue", "-q", *options[1], "-b", "512", "-c", "128", "disk", copy, log])
 
 
 def compare(room, program, name, bad, scrapes):
     prepare(room, bad)
     ours = reads_of(room, commands(program, "ours", "map", scrapes)[0])
+    plain = reads_of(room, commands(program, "plain", "", scrapes)[0])
     theirs = reads_of(room, commands(program, "theirs", "log", scrapes)[1])
-    mine, others = lost(room, "ours"), lost(room, "theirs")
+    mine, bare, others = (lost(room, path) for path in ("ours", "plain", "theirs"))
     again = [sum(reads_of(room, commands(program, copy, log, scrapes)[which])[-1] for _ in range(2))
              for which, copy, log in ((0, "ours", "map"), (1, "theirs", "log"))]
-    lacks = not set(mine) <= set(others)
-    more = lacks or again[0] > again[1] or any(a > RATIO * b for a, b in zip(ours, theirs))
-    print(f"{name}{'' if scrapes else ', --no-scrape'}: {ours[0]}, {ours[1]}, {ours[2]} failed, ddrescue {theirs[0]}, {theirs[1]}, {theirs[2]};"
-          f" lacks {len(mine)}, {len(others)}; again {again[0]}, {again[1]}" + (" more" if more else ""))
+    lacks = not set(mine) | set(bare) <= set(others)
+    more = lacks or again[0] > again[1] or any(max(a, b) > RATIO * c for a, b, c in zip(ours, plain, theirs))
+    counts = [", ".join(map(str, it)) for it in (ours, plain, theirs)]
+    print(f"{name}{'' if scrapes else ', --no-scrape'}: {counts[0]} failed, without a map {counts[1]}, ddrescue {counts[2]};"
+          f" lacks {len(mine)}, {len(bare)}, {len(others)}; again {again[0]}, {again[1]}" + (" more" if more else ""))
     return (scrapes or again[0] > again[1]) and more
 
 

@@ -1,5 +1,5 @@
 -- The runs that the turns of a pass find.
-use Rattle.std.proofs.Common.{ℕ, ◌≡◌, ◌+◌, ◌<◌, ◌≤◌, Bool, true, false, List, [], ◌++◌, length, Option, Some, None, sym, ap, ◌∙◌, subst, inl, inr, arith}
+use Rattle.std.proofs.Common.{ℕ, ◌≡◌, ◌≤◌, Bool, false, List, [], ◌++◌, length, Option, Some, None, sym, ap, ◌∙◌, subst, inl, inr, arith}
 use Rattle.std.proofs.lemmas.Bool.{cases_lt, false≢true}
 use Rattle.rescue_map.specs.declared.map.Run.{Run}
 use Rattle.rescue_map.specs.Maps.{marks}
@@ -31,7 +31,7 @@ pub record IsFound {S : Type 0} (now : Progressed S) : Type 0 where
   pub told : AreTold now.at now.runs found
 
 -- a pass by single sectors
-reads-later : (phase : Phase) (wanted : ℕ) (before : List Bool) (scan : Scanned) (old : Sides) (read : ReadMap) (new : Sides) → is_large phase ≡ false → ReadsSectors phase wanted before scan old read new → ReadsLeft before (scan_in phase scan) old read new
+pub reads-later : (phase : Phase) (wanted : ℕ) (before : List Bool) (scan : Scanned) (old : Sides) (read : ReadMap) (new : Sides) → is_large phase ≡ false → ReadsSectors phase wanted before scan old read new → ReadsLeft before (scan_in phase scan) old read new
 reads-later Skim wanted before scan old read new later reads = absurd (false≢true (sym later))
 reads-later Sweep wanted before scan old read new later reads = absurd (false≢true (sym later))
 reads-later Trim wanted before scan old read new later reads = reads

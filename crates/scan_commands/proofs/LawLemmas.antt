@@ -1,5 +1,5 @@
--- The law of the runs that are reported after the passes of a map file.
-use Rattle.std.proofs.Common.{◌≡◌, ℕ, zero, suc, eqb, ◌+◌, ◌<◌, ◌||◌, not, Bool, true, false, List, length, get_or, None, Ok, Some, refl, sym, ap, ◌∙◌, subst, inl, inr, arith}
+-- The law of the runs that are reported after the passes.
+use Rattle.std.proofs.Common.{◌≡◌, ℕ, zero, suc, eqb, ◌+◌, ◌<◌, ◌||◌, not, Bool, true, false, List, length, get_or, None, Ok, Some, refl, sym, ap, ◌∙◌, subst, inl, inr, arith, Option}
 use Rattle.std.specs.Option.{is_some}
 use Rattle.std.proofs.lemmas.Bool.{cond-false, false≢true, ne_eqb}
 use Rattle.block_device.specs.Device.{Device}
@@ -23,12 +23,12 @@ use Rattle.stack_recovery.specs.Joins.{joined_state, joined_states}
 use Rattle.stack_recovery.specs.Listings.{Listed}
 use Rattle.stack_recovery.specs.LostRuns.{LostRun, is_same_loss}
 use Rattle.stack_recovery.specs.Recoveries.{Sides}
-use Rattle.stack_recovery.specs.Retries.{Steps, no_step, one_more, scan_of}
+use Rattle.scan_commands.specs.Retries.{Steps, no_step, one_more, scan_of}
 use Rattle.stack_recovery.specs.Surveys.{SectorState}
 use Rattle.scan_commands.specs.declared.phase.Phase.{Phase}
-use Rattle.scan_commands.specs.declared.phase.Phase.TheVariants.{Retry, Scrape, Skim, Sweep, Trim}
+use Rattle.scan_commands.specs.declared.phase.Phase.TheVariants.{Retry, Skim, Sweep, Trim}
 use Rattle.scan_commands.specs.Laws.{LostRunsAreUnrecovered, is_in, reported}
-use Rattle.scan_commands.specs.MapFiles.{Continues, IsMapRead, MapPathRecord, continues}
+use Rattle.scan_commands.specs.MapFiles.{BeginsMap, Continues, IsMapRead, MapPathRecord, continues, with_tail}
 use Rattle.scan_commands.specs.PassesInTurns.{AfterTurns, IsSilentPass, IsSilentTurns, KeepsTurns, ReportsLast, SweepsInTurns, after_turns, nothing, pass_from, phase_after}
 use Rattle.scan_commands.specs.Turns.{Kept, kept}
 use Rattle.scan_commands.proofs.LostSectorLemmas.{AreBetween, joined-at, joined-lost, runs-in}
@@ -48,13 +48,13 @@ read-size w file sectors made (inr new) = unread-size sectors made new.unread
 
 -- ---- the passes
 
-silent-size : {S : Type 0} (k : Kept S) (phase : Phase) (old new : AfterTurns S) → IsSilentPass k phase old new → length (marks old.left.map) ≡ k.sectors → length (marks new.left.map) ≡ k.sectors
+pub silent-size : {S : Type 0} (k : Kept S) (phase : Phase) (old new : AfterTurns S) → IsSilentPass k phase old new → length (marks old.left.map) ≡ k.sectors → length (marks new.left.map) ≡ k.sectors
 silent-size k phase old new p size = size-turns k phase (pass_from phase k.sectors old p.0) p.3 size
 
 sweeps-size : {S : Type 0} (k : Kept S) (old new : AfterTurns S) → SweepsInTurns k old new → length (marks old.left.map) ≡ k.sectors → length (marks new.left.map) ≡ k.sectors
 sweeps-size k old new p size = silent-size k Sweep p.between new p.sweeps (silent-size k Skim old p.between p.skims size)
 
-kept-size : {S : Type 0} (k : Kept S) (phase : Phase) (old new : AfterTurns S) (found : List LostRun) → KeepsTurns k phase old new found → length (marks old.left.map) ≡ k.sectors → length (marks new.left.map) ≡ k.sectors
+pub kept-size : {S : Type 0} (k : Kept S) (phase : Phase) (old new : AfterTurns S) (found : List LostRun) → KeepsTurns k phase old new found → length (marks old.left.map) ≡ k.sectors → length (marks new.left.map) ≡ k.sectors
 kept-size k phase old new found t size = ap (λ (l : List Run). length (marks l)) t.map ∙ size-turns k phase (pass_from phase k.sectors old nothing) t.reads size
 
 steps-size : {S : Type 0} (k : Kept S) (old : AfterTurns S) {n : ℕ} {new : AfterTurns S} → Steps (IsSilentTurns k) old n new → length (marks old.left.map) ≡ k.sectors → length (marks new.left.map) ≡ k.sectors
@@ -95,11 +95,15 @@ later-small true zero = refl
 later-small false zero = refl
 later-small no_scrape (suc n) = ap is_large (cond-false (eqb (suc n) 0) _ Retry (ne_eqb (suc n) 0 (λ h. omega (arith, h))))
 
+begins-size : {S D : Type 0} (w : Calls S D) (file : Option MapPathRecord) (sectors : ℕ) (made : ParsedMap) → BeginsMap w file sectors made → length (marks made.map) ≡ sectors
+begins-size w None sectors made begins = unread-size sectors made begins.1
+begins-size w (Some file) sectors made read = read-size w file sectors made read
+
 pub unrecovered : {S D : Type 0} (relations : Opener S D) (state : D → Device) → LostRunsAreUnrecovered relations state
 unrecovered relations state old new file t m counts r s low =
     let sectors : ℕ = size m.old.stack.config (mapped t.d) in
-    let k = kept relations.replaces (record file { tail = r.found.tail }) (scan_of t) sectors in
-    let read = read-size (record (calls relations state old new) { new = r.between }) file sectors r.found r.read in
+    let k = kept relations.replaces (with_tail file r.found.tail) (scan_of t) sectors in
+    let read = begins-size (record (calls relations state old new) { new = r.between }) file sectors r.found r.read in
     let swept = sweeps-size k (after_turns r.between m.old.stack m.old.out r.found.map) r.rescued.swept r.rescued.large read in
     let trimmed = kept-size k Trim r.rescued.swept r.rescued.between r.rescued.known r.rescued.trims swept in
     let left = steps-size k r.rescued.between r.rescued.again.0 trimmed in

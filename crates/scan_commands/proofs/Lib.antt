@@ -16,4 +16,8 @@ mod LostSectorLemmas
 mod LostMarkLemmas
 mod LostTurnLemmas
 mod FoundRunLemmas
+mod MeantTurnLemmas
+mod MeantPassLemmas
+mod MeantStateLemmas
+mod PlainPassLemmas
 mod MapUseLemmas

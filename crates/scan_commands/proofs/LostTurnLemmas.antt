@@ -1,5 +1,5 @@
 -- The runs that a pass in turns finds, and the sectors that its map doesn't mark as recovered.
-use Rattle.std.proofs.Common.{ℕ, ◌≡◌, ◌+◌, ◌-◌, ◌<◌, ◌≤◌, ◌&&◌, ◌||◌, not, Bool, true, false, List, ◌++◌, length, map, get_or, replicate, None, refl, sym, ap, ap₂, ◌∙◌, subst, inl, inr, arith}
+use Rattle.std.proofs.Common.{ℕ, ◌≡◌, ◌+◌, ◌-◌, ◌<◌, ◌≤◌, ◌||◌, not, Bool, true, false, List, ◌++◌, length, map, get_or, replicate, None, refl, sym, ap, ◌∙◌, subst, inl, inr, arith}
 use Rattle.std.specs.Option.{is_some}
 use Rattle.std.proofs.lemmas.Bool.{cases_lt, false≢true}
 use Rattle.std.proofs.lemmas.List.{get_or-map, get_or-replicate, length-map, length-replicate}
@@ -24,6 +24,7 @@ use Rattle.scan_commands.specs.declared.phase.Phase.{Phase}
 use Rattle.scan_commands.specs.declared.phase.Phase.TheVariants.{Retry, Scrape, Skim, Sweep, Trim}
 use Rattle.scan_commands.specs.Laws.{is_in}
 use Rattle.scan_commands.specs.Turns.{IsTurn, Kept, Progressed, asked_marks, span_between, step_of}
+use Rattle.scan_commands.proofs.TurnLemmas.{up-to-few}
 use Rattle.scan_commands.proofs.LostSectorLemmas.{AreBetween, between-append, in-append, in-before, in-behind, runs-in, runs-span}
 use Rattle.scan_commands.proofs.LostMarkLemmas.{had-lost, spliced-before, spliced-behind, spliced-inside, spliced-size, survey-marked}
 
@@ -50,7 +51,7 @@ or-false : (x : Bool) → x || false ≡ x
 or-false true = refl
 or-false false = refl
 
-not-false : (x : Bool) → not x ≡ false → x ≡ true
+pub not-false : (x : Bool) → not x ≡ false → x ≡ true
 not-false true e = refl
 not-false false e = absurd (false≢true (sym e))
 
@@ -107,6 +108,20 @@ module _ {S : Type 0} (k : Kept S) (phase : Phase) (old new : Progressed S) (t :
       ∙ ap is_recovered (stepped-get step span 0 (statuses old.runs) spliced bads s (omega (arith, low, size, statuses-length old.runs)) (omega (arith, low, spliced-all)) (omega (arith, low, bads-all)))
       ∙ ap (λ (n : ℕ). is_recovered (status_after step (is_inside span n) (was s) (get_or spliced s false) (get_or bads s false))) here
 
+  -- the status of a sector that the turn covers
+  pub status-new : (s : ℕ) → old.at ≤ s → s < new.at → get_or (statuses new.runs) s Untried ≡ status_after step true (was s) (get_or made s false) (get_or (losts t.made.map) s false)
+  status-new s from to =
+      let here : 0 + s ≡ s = omega arith in
+      let low : s < k.sectors = omega (arith, to, few-inside) in
+      let within : s < old.at + (new.at - old.at) = omega (arith, to, upto) in
+      ap (λ (l : List Status). get_or l s Untried) t.map
+      ∙ stepped-get step span 0 (statuses old.runs) spliced bads s (omega (arith, low, size, statuses-length old.runs)) (omega (arith, low, spliced-all)) (omega (arith, low, bads-all))
+      ∙ ap (λ (n : ℕ). status_after step (is_inside span n) (was s) (get_or spliced s false) (get_or bads s false)) here
+      ∙ ap (λ (i : Bool). status_after step i (was s) (get_or spliced s false) (get_or bads s false)) (inside-within span s from within)
+      ∙ ap (λ (h : Bool). status_after step true (was s) h (get_or bads s false)) (spliced-inside span (marks old.runs) made inside-old inside-made s from within)
+      ∙ ap (λ (b : Bool). status_after step true (was s) (get_or made s false) b)
+      (spliced-inside span (losts old.runs) (losts t.made.map) (omega (arith, inside-old, losts-length old.runs)) (omega (arith, inside-made, losts-length t.made.map)) s from within)
+
   -- the sectors before the turn are as they were
   mark-before : (s : ℕ) → s < old.at → get_or (marks new.runs) s false ≡ get_or (marks old.runs) s false
   mark-before s low =
@@ -134,7 +149,7 @@ module _ {S : Type 0} (k : Kept S) (phase : Phase) (old new : Progressed S) (t :
       spliced-behind t.span (replicate k.sectors true) (untaken_marks step.takes old.runs) read-inside read-untaken s (omega (arith, past, t.next.first, t.next.end))
       ∙ get_or-replicate k.sectors s true false low
 
-  asked-inside : (s : ℕ) → old.at ≤ s → s < t.end → get_or asked s false ≡ not (is_same (was s) step.takes)
+  pub asked-inside : (s : ℕ) → old.at ≤ s → s < t.end → get_or asked s false ≡ not (is_same (was s) step.takes)
   asked-inside s from to =
       spliced-inside t.span (replicate k.sectors true) (untaken_marks step.takes old.runs) read-inside read-untaken s (omega (arith, from, t.next.first)) (omega (arith, to, t.next.first, t.next.end))
       ∙ untaken-get step.takes old.runs s (omega (arith, to, t.next.inside, size))
@@ -154,7 +169,7 @@ module _ {S : Type 0} (k : Kept S) (phase : Phase) (old new : Progressed S) (t :
     marked-none j is = let here : j ≡ 0 + j = omega arith in survey-marked asked k.scan.d 0 w reads w' j survey (sym (ap (λ (n : ℕ). get_or asked n false) here) ∙ is)
 
     none-behind : (j : ℕ) → new.at ≤ j → j < length states → get_or states j None ≡ None
-    none-behind j past low = marked-none j (asked-behind j (omega (arith, past, low, states-length, t.here)) (omega (arith, low, states-length, t.few)))
+    none-behind j past low = marked-none j (asked-behind j (omega (arith, past, low, states-length, t.here)) (omega (arith, low, states-length, up-to-few k.file k.sectors (length (marks t.made.map)) t.few)))
 
     runs-between : AreBetween old.at new.at runs
     runs-between =

@@ -13,7 +13,7 @@ use Rattle.stack_engine.specs.Stacks.{StackRecord}
 use Rattle.scan_commands.specs.declared.pass_counts.PassCounts.{PassCounts}
 use Rattle.stack_recovery.specs.Listings.{Listed}
 use Rattle.stack_recovery.specs.Recoveries.{sides}
-use Rattle.stack_recovery.specs.Retries.{Retried}
+use Rattle.scan_commands.specs.Retries.{Retried}
 use Rattle.scan_commands.specs.Copies.{IsOutputSeenAs, PassesTo, StopsTo}
 
 -- OUT under a device that reads before it writes

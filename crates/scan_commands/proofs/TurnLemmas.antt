@@ -1,9 +1,11 @@
 -- A turn over a device.
-use Rattle.std.proofs.Common.{ℕ, ◌≡◌, ◌⊎◌, suc, ◌+◌, ◌-◌, ◌<◌, ◌≤◌, ◌^◌, Bool, List, [], ◌∷◌, length, map, Option, Some, Result, Ok, Err, IfErr, IfOk, IsErrAnd, append-nil, arith, inl, inr, false, true, refl, sym, ap, ◌∙◌, subst}
+use Rattle.std.proofs.Common.{ℕ, ◌≡◌, ◌⊎◌, suc, ◌+◌, ◌-◌, ◌<◌, ◌≤◌, ◌^◌, Bool, List, [], ◌∷◌, length, map, Option, Some, None, Result, Ok, Err, IfErr, IfOk, IsErrAnd, arith, inl, inr, false, true, refl, sym, ap, ◌∙◌, subst}
 use Rattle.std.proofs.lemmas.Bool.{false≢true}
 use Rattle.allocation.specs.Refusal.{IsOutOfMemory}
 use Rattle.block_device.specs.Device.{Device, HasFailed, IsSameDevice}
+use Rattle.rescue_map.specs.declared.map.Run.{Run}
 use Rattle.rescue_map.specs.Maps.{marks}
+use Rattle.rescue_map.specs.MapText.{map_text}
 use Rattle.stack_rules.specs.Names.{mapped, size}
 use Rattle.stack_rules.proofs.lemmas.PassingLemmas.{out_of_memory-more}
 use Rattle.stack_meaning.specs.Memory.{largest_allocation}
@@ -11,11 +13,12 @@ use Rattle.stack_engine.specs.Stacks.{StackRecord}
 use Rattle.scan_commands.specs.declared.rescue_fault.PassFault.{PassFault}
 use Rattle.scan_commands.specs.declared.rescue_fault.PassFault.TheVariants.{NoMap, NoMemory, Output, TooLong, Unread, Unwritten}
 use Rattle.scan_commands.specs.declared.turn_reads.ReadMap.{ReadMap}
-use Rattle.scan_commands.specs.MapFiles.{recovery_ending}
+use Rattle.image_files.specs.declared.texts.ReplaceFault.{ReplaceFault}
+use Rattle.scan_commands.specs.MapFiles.{MapPathRecord, recovery_ending}
 use Rattle.rescue_map.specs.declared.splicing.Span.{Span}
-use Rattle.scan_commands.specs.Turns.{IsSpan, asked_marks, Kept, Progressed, ReadsLarge, ReadsLeft, ReadsSectors, is_trim, made_map, most_skipped, scan_in}
-use Rattle.scan_commands.specs.TurnEnds.{EndsSectors, EndsUnmapped, FailsToWrite, RunsOut, IsMapUnwritten, IsUnfailed, StopsIn, largest_print_allocation, skipping_in}
-use Rattle.scan_commands.specs.TurnCalls.{ReadsLeftUntil, ReadsPast}
+use Rattle.scan_commands.specs.Turns.{IsSpan, IsTurnDeadline, IsUpTo, asked_marks, Kept, Progressed, ReadsLarge, ReadsLeft, ReadsSectors, Replaces, is_trim, kept as kept_by, made_map, most_skipped, scan_in, synced_by}
+use Rattle.scan_commands.specs.TurnEnds.{EndsSectors, EndsUnmapped, FailsToWrite, IsFileUnreplaced, LeavesMap, RunsOut, IsMapUnwritten, IsUnfailed, StopsIn, largest_print_allocation, skipping_in}
+use Rattle.scan_commands.specs.TurnCalls.{ReadsLeftUntil, ReadsUntil}
 use Rattle.stack_recovery.specs.declared.deadline.Deadline.{Deadline}
 use Rattle.stack_recovery.specs.declared.fault.RecoveryFault.{RecoveryFault}
 use Rattle.stack_recovery.specs.declared.fault.RecoveryFault.TheVariants as recovery
@@ -25,7 +28,7 @@ use Rattle.stack_recovery.specs.declared.rescued.Rescued.{Rescued}
 use Rattle.stack_recovery.specs.Deadlines.{EndsAt}
 use Rattle.stack_recovery.specs.FirstPasses.{EndsSkim, SkimsShort, SkimsTo, SkimsUntil, Skipping, Transfer, skimmed, skipping}
 use Rattle.stack_recovery.specs.Skims.{IsSkimOver, Skim as SkimPiece, marks_of, skim_marks}
-use Rattle.stack_recovery.specs.TwoPasses.{transfer_of}
+use Rattle.stack_recovery.specs.FirstPasses.{transfer_of}
 use Rattle.stack_recovery.specs.PassPieces.{Scanned, scanned}
 use Rattle.stack_recovery.specs.Recoveries.{FailsOutput, FindsNoMemory, GoesOverTo, IsMapRefused, IsRescueEnd, RescuesUntil, RunsShort, Sides, counted_sectors, is_had}
 use Rattle.stack_recovery.specs.Surveys.{AnswersFinding, Finding, IsSurveyOver, PieceRead, SectorState, again, all_states, had, kept, lost, probed, states_of, trimmed}
@@ -79,16 +82,35 @@ reads-unfailed Retry wanted before scan old made new r = r.1.unfailed
 
 -- ---- one pass over the sectors of a turn
 
--- it ended past the first sector
-ends-past : (deadline : Deadline) (at sectors : ℕ) → deadline.first < sectors → EndsAt (Some deadline) at sectors → (deadline.first < at) × (at ≤ sectors)
-ends-past deadline at sectors inside (inl whole) = (omega (arith, inside, whole), omega (arith, whole))
-ends-past deadline at sectors inside (inr early) = early
+-- it ended past the first sector, and without a map file after the last one
+pub ends-past : (file : Option MapPathRecord) (first : ℕ) (deadline : Option Deadline) (at sectors : ℕ) → IsTurnDeadline file first deadline → first < sectors → EndsAt deadline at sectors → (first < at) × IsUpTo file sectors at
+ends-past None first deadline at sectors until inside ends = whole (subst (λ (x : Option Deadline). EndsAt x at sectors) until ends)
+  where
+    whole : EndsAt None at sectors → (first < at) × (at ≡ sectors)
+    whole (inl e) = (omega (arith, inside, e), e)
+    whole (inr early) = absurd early.0
+ends-past (Some file) first deadline at sectors until inside ends = upto (subst (λ (x : Option Deadline). EndsAt x at sectors) until.1 ends)
+  where
+    upto : EndsAt (Some (record { first = first; seconds = until.0 })) at sectors → (first < at) × (at ≤ sectors)
+    upto (inl e) = (omega (arith, inside, e), omega (arith, e))
+    upto (inr early) = early
 
-reads-past : (phase : Phase) (deadline : Deadline) (wanted : ℕ) (before : List Bool) (scan : Scanned) (old : Sides) (made : ReadMap) (new : Sides) → deadline.first < size old.stack.config (mapped scan.d)
-    → ReadsSectors phase wanted before scan old made new → EndsAt (Some deadline) (length (marks made.map)) (size old.stack.config (mapped scan.d)) → ReadsPast phase wanted before scan deadline.first old made new
-reads-past phase deadline wanted before scan old made new inside reads ends =
-    let past = ends-past deadline (length (marks made.map)) (size old.stack.config (mapped scan.d)) inside ends in
-    record { reads = reads; some = past.0; few = past.1 }
+pub up-to-few : (file : Option MapPathRecord) (sectors at : ℕ) → IsUpTo file sectors at → at ≤ sectors
+up-to-few None sectors at e = omega (arith, e)
+up-to-few (Some file) sectors at few = few
+
+-- the output device after it
+pub synced-size : (file : Option MapPathRecord) (out : Device) → (synced_by file out).size ≡ out.size
+synced-size None out = refl
+synced-size (Some file) out = refl
+
+pub synced-writes : (file : Option MapPathRecord) (out : Device) → (synced_by file out).may_write ≡ out.may_write
+synced-writes None out = refl
+synced-writes (Some file) out = refl
+
+pub synced-failures : (file : Option MapPathRecord) (out : Device) → (synced_by file out).failures ≡ out.failures
+synced-failures None out = refl
+synced-failures (Some file) out = refl
 
 -- a pass in large pieces
 as-sectors : (phase : Phase) (wanted : ℕ) (before : List Bool) (scan : Scanned) (old : Sides) (made : ReadMap) (new : Sides) → is_large phase ≡ true → ReadsLarge phase wanted before scan old made new → ReadsSectors phase wanted before scan old made new
@@ -99,16 +121,16 @@ as-sectors Scrape wanted before scan old made new large r = absurd (false≢true
 as-sectors Retry wanted before scan old made new large r = absurd (false≢true large)
 
 -- by the most sectors that it skips
-abbrev pub ReadsLargeUntil : Deadline → Skipping → List Bool → Scanned → Sides → ReadMap → Sides → Type 0
-ReadsLargeUntil deadline skips before scan old made new = SkimsUntil (Some deadline) skips before scan.d (transfer_of old) (skimmed made.map made.skip) (transfer_of new)
+abbrev pub ReadsLargeUntil : Option Deadline → Skipping → List Bool → Scanned → Sides → ReadMap → Sides → Type 0
+ReadsLargeUntil deadline skips before scan old made new = SkimsUntil deadline skips before scan.d (transfer_of old) (skimmed made.map made.skip) (transfer_of new)
 
-pub large-reads : (phase : Phase) (r : Result ReadMap RecoveryFault) (deadline : Deadline) (most wanted : ℕ) (before : List Bool) (scan : Scanned) (old new : Sides) → is_large phase ≡ true → most ≡ most_skipped phase (size old.stack.config (mapped scan.d))
-    → deadline.first < size old.stack.config (mapped scan.d) → new.printed ≡ old.printed → IfOk r (λ made. ReadsLargeUntil deadline (skipping most wanted) before scan old made new) → IfOk r (λ made. ReadsPast phase wanted before scan deadline.first old made new)
-large-reads phase (Ok made) deadline most wanted before scan old new large is inside told p =
+pub large-reads : (phase : Phase) (r : Result ReadMap RecoveryFault) (deadline : Option Deadline) (most wanted : ℕ) (before : List Bool) (scan : Scanned) (old new : Sides) → is_large phase ≡ true → most ≡ most_skipped phase (size old.stack.config (mapped scan.d))
+    → new.printed ≡ old.printed → IfOk r (λ made. ReadsLargeUntil deadline (skipping most wanted) before scan old made new) → IfOk r (λ made. ReadsUntil phase wanted before scan deadline old made new)
+large-reads phase (Ok made) deadline most wanted before scan old new large is told p =
     let reads : ReadsLarge phase wanted before scan old made new =
     (subst (λ (m : ℕ). SkimsTo (skipping m wanted) before scan.d (length (marks made.map)) (transfer_of old) (skimmed made.map made.skip) (transfer_of new)) is p.reads, told) in
-    reads-past phase deadline wanted before scan old made new inside (as-sectors phase wanted before scan old made new large reads) p.ends
-large-reads phase (Err fault) deadline most wanted before scan old new large is inside told p = tt
+    record { reads = as-sectors phase wanted before scan old made new large reads; ends = p.ends }
+large-reads phase (Err fault) deadline most wanted before scan old new large is told p = tt
 
 -- a pass by single sectors
 as-single : (phase : Phase) (wanted : ℕ) (before : List Bool) (scan : Scanned) (old : Sides) (made : ReadMap) (new : Sides) → is_large phase ≡ false → ReadsLeft before (scan_in phase scan) old made new → ReadsSectors phase wanted before scan old made new
@@ -118,11 +140,13 @@ as-single Trim wanted before scan old made new single r = r
 as-single Scrape wanted before scan old made new single r = r
 as-single Retry wanted before scan old made new single r = r
 
-pub single-reads : (phase : Phase) (r : Result ReadMap RecoveryFault) (deadline : Deadline) (wanted : ℕ) (before : List Bool) (scan : Scanned) (trims : Bool) (old new : Sides) → is_large phase ≡ false → trims ≡ is_trim phase → deadline.first < size old.stack.config (mapped scan.d)
-    → IfOk r (λ made. ReadsLeftUntil (Some deadline) before (scanned scan.d trims) old made new) → IfOk r (λ made. ReadsPast phase wanted before scan deadline.first old made new)
-single-reads phase (Ok made) deadline wanted before scan trims old new single is inside p =
-    reads-past phase deadline wanted before scan old made new inside (as-single phase wanted before scan old made new single (subst (λ (b : Bool). ReadsLeft before (scanned scan.d b) old made new) is p.0)) p.1
-single-reads phase (Err fault) deadline wanted before scan trims old new single is inside p = tt
+pub single-reads : (phase : Phase) (r : Result ReadMap RecoveryFault) (deadline : Option Deadline) (wanted : ℕ) (before : List Bool) (scan : Scanned) (trims : Bool) (old new : Sides) → is_large phase ≡ false → trims ≡ is_trim phase
+    → IfOk r (λ made. ReadsLeftUntil deadline before (scanned scan.d trims) old made new) → IfOk r (λ made. ReadsUntil phase wanted before scan deadline old made new)
+single-reads phase (Ok made) deadline wanted before scan trims old new single is p = record {
+  reads = as-single phase wanted before scan old made new single (subst (λ (b : Bool). ReadsLeft before (scanned scan.d b) old made new) is p.0);
+  ends = p.1;
+}
+single-reads phase (Err fault) deadline wanted before scan trims old new single is p = tt
 
 length-states : (states : List SectorState) → length (map is_had states) ≡ length states
 length-states [] = refl
@@ -190,7 +214,7 @@ refused-skim skips before d old new short = refused short.refused
     refused (inr map) = out_of_memory-more 1 largest_allocation (omega arith) map
 
 pub stops-reading : {S : Type 0} (k : Kept S) (phase : Phase) (now : Progressed S) (span : Span) (end : ℕ) (before : List Bool) (new : Sides) (fault : RecoveryFault)
-    → IsSpan k.sectors now.at span end → before ≡ asked_marks phase span k.sectors now.runs → EndsSectors phase now.skip before k.scan now.sides new fault → StopsIn k phase now now.images new (recovery_ending fault)
+    → IsSpan k.file k.sectors now.at span end → before ≡ asked_marks phase span k.sectors now.runs → EndsSectors phase now.skip before k.scan now.sides new fault → StopsIn k phase now now.images new (recovery_ending fault)
 stops-reading k Skim now span end before new recovery.NoMemory next wanted e = (
   refl,
   e.0.unfailed,
@@ -252,14 +276,23 @@ stops-reading k Retry now span end before new recovery.Output next wanted e = (
   record { span = span; end = end; next = next; fails = inl (subst (λ (l : List Bool). FailsOutput l (scan_in Retry k.scan) now.sides new) wanted e) },
 )
 
-pub stops-unwritten : {S : Type 0} (k : Kept S) (phase : Phase) (now : Progressed S) (text : List ℕ) (images : S) (new : Sides) (fault : PassFault)
-    → IsUnfailed now.sides new → EndsUnmapped k phase now new → IsMapUnwritten k.replaces k.file.path now.images text images fault → StopsIn k phase now images new fault
-stops-unwritten k phase now text images new NoMemory u r e = (e.0, u, out_of_memory-more largest_print_allocation largest_allocation (omega arith) e.1, inr (inr r))
-stops-unwritten k phase now text images new (Unread cause) u r e = absurd e
-stops-unwritten k phase now text images new TooLong u r e = absurd e
-stops-unwritten k phase now text images new (NoMap cause) u r e = absurd e
-stops-unwritten k phase now text images new Output u r e = absurd e
-stops-unwritten k phase now text images new (Unwritten cause) u r e = (text, e, u, r)
+-- the fault is that of the map file
+unwritten : {S : Type 0} (k : Kept S) (phase : Phase) (now : Progressed S) (replaces : Replaces S) (path text : List ℕ) (images : S) (new : Sides) (fault : PassFault)
+    → ((cause : ReplaceFault) → replaces now.images path text (Err cause) images → IsFileUnreplaced k.replaces k.file now.images cause images)
+    → IsUnfailed now.sides new → EndsUnmapped k phase now new → IsMapUnwritten replaces path now.images text images fault → StopsIn k phase now images new fault
+unwritten k phase now replaces path text images new NoMemory replaced u r e = (e.0, u, out_of_memory-more largest_print_allocation largest_allocation (omega arith) e.1, inr (inr r))
+unwritten k phase now replaces path text images new (Unread cause) replaced u r e = absurd e
+unwritten k phase now replaces path text images new TooLong replaced u r e = absurd e
+unwritten k phase now replaces path text images new (NoMap cause) replaced u r e = absurd e
+unwritten k phase now replaces path text images new Output replaced u r e = absurd e
+unwritten k phase now replaces path text images new (Unwritten cause) replaced u r e = (replaced cause e, u, r)
+
+pub stops-unwritten : {S : Type 0} (replaces : Replaces S) (file : Option MapPathRecord) (scan : Scanned) (sectors : ℕ) (phase : Phase) (now : Progressed S) (runs : List Run) (images : S) (new : Sides) (fault : PassFault)
+    → IsUnfailed now.sides new → EndsUnmapped (kept_by replaces file scan sectors) phase now new → LeavesMap replaces file scan.no_scrape runs now.images images fault → StopsIn (kept_by replaces file scan sectors) phase now images new fault
+stops-unwritten replaces None scan sectors phase now runs images new fault u r e = absurd e
+stops-unwritten replaces (Some file) scan sectors phase now runs images new fault u r e =
+    let text = map_text file.kind scan.no_scrape runs file.tail in
+    unwritten (kept_by replaces (Some file) scan sectors) phase now replaces file.path text images new fault (λ cause written. (text, written)) u r e
 
 -- the sectors were done, and room for a map was refused
 pub stops-unmapped : {S : Type 0} (k : Kept S) (phase : Phase) (now : Progressed S) (new : Sides) → IsUnfailed now.sides new → EndsUnmapped k phase now new → IsOutOfMemory 1 → StopsIn k phase now now.images new NoMemory

@@ -24,7 +24,7 @@ use Rattle.stack_files.specs.declared.device_source.DeviceSource.{DeviceSource}
 use Rattle.scan_commands.specs.declared.pass_counts.PassCounts.{PassCounts}
 use Rattle.stack_recovery.specs.Listings.{Listed}
 use Rattle.stack_recovery.specs.Recoveries.{sides}
-use Rattle.stack_recovery.specs.Retries.{Retried, retried}
+use Rattle.scan_commands.specs.Retries.{Retried, retried}
 use Rattle.scan_commands.specs.declared.copy.CopyPlan.{CopyPlan}
 use Rattle.charts.specs.declared.form.ReportForm.TheVariants.{Lines}
 use Rattle.scan_commands.specs.declared.recovering_fault.RecoveringFault.{RecoveringFault}

@@ -1,5 +1,5 @@
 -- Passes over a device, with the number of blocks that parity restored meanwhile.
-use Rattle.std.specs.Prelude.{◌≡◌, ℕ, ◌-◌, List, Option, option_map}
+use Rattle.std.specs.Prelude.{◌≡◌, ◌-◌, Option, option_map}
 use Rattle.block_device.specs.Device.{Device}
 use Rattle.image_files.specs.Opener.{Calls, Opener, calls}
 use Rattle.scan_commands.specs.declared.map_file.MapPath.{MapPath}
@@ -10,7 +10,7 @@ use Rattle.scan_commands.specs.Passes.{Moving, Passes, moving, retried_of}
 use Rattle.stack_recovery.specs.declared.recovery.Counts.{Counts}
 use Rattle.stack_recovery.specs.Listings.{Listed}
 use Rattle.stack_recovery.specs.Recoveries.{sides}
-use Rattle.stack_recovery.specs.Retries.{Retried}
+use Rattle.scan_commands.specs.Retries.{Retried}
 
 -- no block was restored
 abbrev pub unrestored : Counts → PassCounts

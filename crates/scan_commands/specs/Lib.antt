@@ -3,6 +3,7 @@ pub mod Counting
 pub mod Reports
 pub mod Scans
 pub mod Passes
+pub mod Retries
 pub mod CountedPasses
 pub mod PassesInTurns
 pub mod MapFiles

@@ -1,8 +1,7 @@
 -- The map file of a device.
-use Rattle.std.specs.Prelude.{◌≡◌, ◌⊎◌, ℕ, ◌<◌, ◌≤◌, Bool, true, false, List, length, replicate, Option, option_map, Ok, Err}
+use Rattle.std.specs.Prelude.{◌≡◌, ◌⊎◌, ℕ, ◌<◌, ◌≤◌, Bool, true, false, List, length, replicate, Option, Some, None, option_map, Ok, Err}
 use Rattle.allocation.specs.Refusal.{IsOutOfMemory}
 use Rattle.block_device.specs.Device.{Device}
-use Rattle.block_device.specs.declared.open_fault.OpenFault.{OpenFault}
 use Rattle.block_device.specs.declared.open_fault.OpenFault.TheVariants.{NotFound}
 use Rattle.image_files.specs.declared.images.FileText.{FileText}
 use Rattle.image_files.specs.OpenPlaces.{is_missing}
@@ -67,6 +66,10 @@ map_path_of file = map_path file.path.now file.kind file.tail
 abbrev pub map_at : Option (List ℕ) → MapKind → Option MapPathRecord
 map_at path kind = option_map (λ p. map_path p kind no_tail) path
 
+-- the file whose maps have these bytes after the device's sectors
+abbrev pub with_tail : Option MapPathRecord → Tail → Option MapPathRecord
+with_tail file tail = option_map (λ (f : MapPathRecord). record f { tail = tail }) file
+
 -- the map begins as the one in the file, whose text has at most 16 MiB
 pub record IsMapTold {S D : Type 0} (w : Calls S D) (file : MapPathRecord) (sectors : ℕ) (made : ParsedMap) : Type 0 where
   pub text : FileText
@@ -95,6 +98,18 @@ IsMapUnread w path sectors TooLong = (text : FileText) × TellsMap w path text �
 IsMapUnread w path sectors (NoMap fault) = (text : FileText) × TellsMap w path text × IsTextUnread text.bytes.items sectors (NoMap fault)
 IsMapUnread w path sectors NoMemory = (w.relations.tells w.old path most_map (Err NotFound) w.new ⊎ ((text : FileText) × TellsMap w path text)) × IsOutOfMemory 1
 IsMapUnread w path sectors fault = ⊥
+
+-- ---- with a map file, or without one
+
+-- The map that the passes begin with: that of the map file, or without one a map in which no sector was tried. Then the opener isn't called.
+abbrev pub BeginsMap : {S D : Type 0} → Calls S D → Option MapPathRecord → ℕ → ParsedMap → Type 0
+BeginsMap w None sectors begun = (w.new ≡ w.old) × IsUnread sectors begun
+BeginsMap w (Some file) sectors begun = IsMapRead w file sectors begun
+
+-- why there is none: without a map file memory for a run was refused
+abbrev pub LacksMap : {S D : Type 0} → Calls S D → Option MapPathRecord → ℕ → PassFault → Type 0
+LacksMap w None sectors fault = (w.new ≡ w.old) × (fault ≡ NoMemory) × IsOutOfMemory 1
+LacksMap w (Some file) sectors fault = IsMapUnread w file.path sectors fault
 
 -- the fault of a pass for the fault of a recovery
 abbrev pub recovery_ending : RecoveryFault → PassFault

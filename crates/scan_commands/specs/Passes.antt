@@ -1,30 +1,27 @@
--- A pass over a mapped device, with or without a map file.
-use Rattle.std.specs.Prelude.{◌≡◌, ◌⊎◌, ℕ, ◌<◌, ◌≤◌, IsTrue, List, length, Option, Some, None, option_map}
+-- The passes over a mapped device, with or without a map file.
+use Rattle.std.specs.Prelude.{◌≡◌, ◌⊎◌, ◌<◌, ◌≤◌, IsTrue, List, length, Option, option_map}
 use Rattle.block_device.specs.Device.{Device}
 use Rattle.image_files.specs.Opener.{Calls, Opener, calls}
 use Rattle.rescue_map.specs.declared.map.Run.{Run}
 use Rattle.rescue_map.specs.declared.text.ParsedMap.{ParsedMap}
 use Rattle.rescue_map.specs.Maps.{marks}
 use Rattle.scan_commands.specs.declared.rescue_fault.PassFault.{PassFault}
-use Rattle.scan_commands.specs.declared.rescue_fault.PassFault.TheVariants.{NoMemory, Output}
 use Rattle.scan_commands.specs.declared.map_file.MapFile.{MapFile}
 use Rattle.scan_commands.specs.declared.map_file.MapPath.{MapPath}
 use Rattle.scan_commands.specs.declared.passing.Passing.{Passing}
 use Rattle.scan_commands.specs.declared.phase.Phase.TheVariants.{Trim}
 use Rattle.scan_commands.specs.declared.retries.TriedMap.{TriedMap}
 use Rattle.scan_commands.specs.declared.trimming.TrimmedMap.{TrimmedMap}
-use Rattle.scan_commands.specs.MapFiles.{IsMapRead, IsMapUnread, MapPathRecord, map_path_of}
+use Rattle.scan_commands.specs.MapFiles.{BeginsMap, LacksMap, MapPathRecord, map_path_of, with_tail}
 use Rattle.scan_commands.specs.PassesInTurns.{EndsLast, EndsRetries, EndsSweeping, IsTurnsEnd, KeepsTurns, ReportsLast, RescuesInTurns, RetriesBy, SweepsInTurns, after_turns}
 use Rattle.scan_commands.specs.Turns.{Kept, Replaces, kept}
 use Rattle.stack_rules.specs.Names.{mapped, size}
-use Rattle.stack_recovery.specs.declared.fault.RecoveryFault.TheVariants as recovery
 use Rattle.stack_recovery.specs.declared.recovery.Counts.{Counts}
 use Rattle.stack_recovery.specs.Listings.{Listed}
 use Rattle.stack_recovery.specs.LostRuns.{LostRun}
 use Rattle.stack_recovery.specs.PassPieces.{scanned}
 use Rattle.stack_recovery.specs.Recoveries.{Sides, sides}
-use Rattle.stack_recovery.specs.Retries.{Retried, retried, scan_of}
-use Rattle.stack_recovery.specs.TwoPasses.{IsRecoveryEnd, Recovers}
+use Rattle.scan_commands.specs.Retries.{Retried, retried, scan_of}
 
 -- the stack, the output device and the reported lines, before and after
 pub record Moving : Type 0 where
@@ -34,43 +31,25 @@ pub record Moving : Type 0 where
 abbrev pub moving : Sides → Sides → Moving
 moving old new = record { old = old; new = new }
 
--- ---- with a map file
-
--- A map file was read; or there is none, and no sector was read before. Then the other sectors were read in passes, each in turns,
--- and the map was replaced after each turn; its bytes after the device's sectors stay.
-pub record IsRescued {S D : Type 0} (w : Calls S D) (file : MapPathRecord) (t : Retried) (m : Moving) (counts : Counts) : Type 0 where
+-- The passes began with a map, that of the map file if there is one. Each pass read sectors of one status, in turns, and a map file was
+-- replaced after each turn; its bytes after the device's sectors stay.
+pub record Passes {S D : Type 0} (w : Calls S D) (file : Option MapPathRecord) (t : Retried) (m : Moving) (counts : Counts) : Type 0 where
   pub found : ParsedMap
   pub between : S
-  pub read : IsMapRead (record w { new = between }) file (size m.old.stack.config (mapped t.d)) found
-  pub rescued : RescuesInTurns (kept w.relations.replaces (record file { tail = found.tail }) (scan_of t) (size m.old.stack.config (mapped t.d))) t.retries (after_turns between m.old.stack m.old.out found.map) m.old.printed w.new m.new counts
+  pub read : BeginsMap (record w { new = between }) file (size m.old.stack.config (mapped t.d)) found
+  pub rescued : RescuesInTurns (kept w.relations.replaces (with_tail file found.tail) (scan_of t) (size m.old.stack.config (mapped t.d))) t.retries (after_turns between m.old.stack m.old.out found.map) m.old.printed w.new m.new counts
 
--- the map was read, and a turn ended early
-pub record IsCutShort {S D : Type 0} (w : Calls S D) (file : MapPathRecord) (t : Retried) (m : Moving) (fault : PassFault) : Type 0 where
+-- the passes began, and a turn ended early
+pub record IsCutShort {S D : Type 0} (w : Calls S D) (file : Option MapPathRecord) (t : Retried) (m : Moving) (fault : PassFault) : Type 0 where
   pub found : ParsedMap
   pub between : S
-  pub read : IsMapRead (record w { new = between }) file (size m.old.stack.config (mapped t.d)) found
-  pub ends : IsTurnsEnd (kept w.relations.replaces (record file { tail = found.tail }) (scan_of t) (size m.old.stack.config (mapped t.d))) t.retries (after_turns between m.old.stack m.old.out found.map) m.old.printed w.new m.new fault
+  pub read : BeginsMap (record w { new = between }) file (size m.old.stack.config (mapped t.d)) found
+  pub ends : IsTurnsEnd (kept w.relations.replaces (with_tail file found.tail) (scan_of t) (size m.old.stack.config (mapped t.d))) t.retries (after_turns between m.old.stack m.old.out found.map) m.old.printed w.new m.new fault
 
--- the map wasn't read, and nothing was done; or a turn ended early
-abbrev pub IsUnrescued : {S D : Type 0} → Calls S D → MapPathRecord → Retried → Moving → PassFault → Type 0
-IsUnrescued w file t m fault =
-    ((m.new ≡ m.old) × IsMapUnread w file.path (size m.old.stack.config (mapped t.d)) fault) ⊎ IsCutShort w file t m fault
-
--- ---- with a map file, or without one, when the opener isn't called
-
-abbrev pub Passes : {S D : Type 0} → Calls S D → Option MapPathRecord → Retried → Moving → Counts → Type 0
-Passes w None t m counts = (w.new ≡ w.old) × Recovers t m.old counts m.new
-Passes w (Some file) t m counts = IsRescued w file t m counts
-
--- the recovery ended early
-abbrev pub IsRecoveryStopped : Retried → Moving → PassFault → Type 0
-IsRecoveryStopped t m NoMemory = IsRecoveryEnd t m.old m.new recovery.NoMemory
-IsRecoveryStopped t m Output = IsRecoveryEnd t m.old m.new recovery.Output
-IsRecoveryStopped t m fault = ⊥
-
+-- there was no map to begin with, and nothing was done; or a turn ended early
 abbrev pub StopsPass : {S D : Type 0} → Calls S D → Option MapPathRecord → Retried → Moving → PassFault → Type 0
-StopsPass w None t m fault = (w.new ≡ w.old) × IsRecoveryStopped t m fault
-StopsPass w (Some file) t m fault = IsUnrescued w file t m fault
+StopsPass w file t m fault =
+    ((m.new ≡ m.old) × LacksMap w file (size m.old.stack.config (mapped t.d)) fault) ⊎ IsCutShort w file t m fault
 
 -- ---- in terms of the arguments of a call
 
@@ -84,38 +63,38 @@ pub record CanPass {D O : Type 0} (state : O → Device) (p : Passing D O) : Typ
 abbrev pub retried_of : {D O : Type 0} → Passing D O → Retried
 retried_of p = retried p.device.0 p.retries p.no_scrape
 
--- a device that is read by a map file
-abbrev pub kept_by : {S D O : Type 0} → Replaces S → MapPath → Passing D O → Kept S
-kept_by replaces file old = kept replaces (map_path_of file) (scanned old.device.0 old.no_scrape) (size old.stack.config (mapped old.device.0))
+-- a device that is read by a map
+abbrev pub kept_by : {S D O : Type 0} → Replaces S → Option MapPath → Passing D O → Kept S
+kept_by replaces file old = kept replaces (option_map map_path_of file) (scanned old.device.0 old.no_scrape) (size old.stack.config (mapped old.device.0))
 
 -- the passes in large pieces, after which the map is that one, or their early end
-abbrev pub ReadsLargeMapBy : {S D O : Type 0} → Replaces S → (O → Device) → MapPath → List Run → S → S → Passing D O → Passing D O → List Run → Type 0
+abbrev pub ReadsLargeMapBy : {S D O : Type 0} → Replaces S → (O → Device) → Option MapPath → List Run → S → S → Passing D O → Passing D O → List Run → Type 0
 ReadsLargeMapBy replaces state file map images images' old new made =
     SweepsInTurns (kept_by replaces file old) (after_turns images old.stack (state old.out) map) (after_turns images' new.stack (state new.out) made)
 
-abbrev pub EndsLargeMapBy : {S D O : Type 0} → Replaces S → (O → Device) → MapPath → List Run → S → S → Passing D O → Passing D O → PassFault → Type 0
+abbrev pub EndsLargeMapBy : {S D O : Type 0} → Replaces S → (O → Device) → Option MapPath → List Run → S → S → Passing D O → Passing D O → PassFault → Type 0
 EndsLargeMapBy replaces state file map images images' old new fault = EndsSweeping (kept_by replaces file old) (after_turns images old.stack (state old.out) map) images' new.stack (state new.out) fault
 
 -- the pass that trims, after which the map is that one, or its early end
-abbrev pub TrimsMapBy : {S D O : Type 0} → Replaces S → (O → Device) → MapPath → List Run → S → S → Passing D O → Passing D O → TrimmedMap → Type 0
+abbrev pub TrimsMapBy : {S D O : Type 0} → Replaces S → (O → Device) → Option MapPath → List Run → S → S → Passing D O → Passing D O → TrimmedMap → Type 0
 TrimsMapBy replaces state file map images images' old new made =
     KeepsTurns (kept_by replaces file old) Trim (after_turns images old.stack (state old.out) map) (after_turns images' new.stack (state new.out) made.map) made.known.runs.items
 
-abbrev pub EndsTrimsBy : {S D O : Type 0} → Replaces S → (O → Device) → MapPath → List Run → S → S → Passing D O → Passing D O → PassFault → Type 0
+abbrev pub EndsTrimsBy : {S D O : Type 0} → Replaces S → (O → Device) → Option MapPath → List Run → S → S → Passing D O → Passing D O → PassFault → Type 0
 EndsTrimsBy replaces state file map images images' old new fault = EndsLast (kept_by replaces file old) Trim (after_turns images old.stack (state old.out) map) images' new.stack (state new.out) fault
 
 -- the passes that report nothing, after which the map is that one
-abbrev pub RetriesMapBy : {S D O : Type 0} → Replaces S → (O → Device) → MapPath → List Run → S → S → Passing D O → Passing D O → TriedMap → Type 0
+abbrev pub RetriesMapBy : {S D O : Type 0} → Replaces S → (O → Device) → Option MapPath → List Run → S → S → Passing D O → Passing D O → TriedMap → Type 0
 RetriesMapBy replaces state file map images images' old new tried =
     RetriesBy (kept_by replaces file old) old.retries (after_turns images old.stack (state old.out) map) images' new.stack (state new.out) tried
 
-abbrev pub EndsRetriesBy : {S D O : Type 0} → Replaces S → (O → Device) → MapPath → List Run → S → S → Passing D O → Passing D O → PassFault → Type 0
+abbrev pub EndsRetriesBy : {S D O : Type 0} → Replaces S → (O → Device) → Option MapPath → List Run → S → S → Passing D O → Passing D O → PassFault → Type 0
 EndsRetriesBy replaces state file map images images' old new fault =
     EndsRetries (kept_by replaces file old) old.retries (after_turns images old.stack (state old.out) map) images' new.stack (state new.out) fault
 
 -- the last pass, which reports, or its early end
 abbrev pub last_kept : {S D O : Type 0} → Replaces S → MapFile → Passing D O → Kept S
-last_kept replaces last old = kept replaces (map_path_of last.file) (scanned old.device.0 last.no_scrape) (size old.stack.config (mapped old.device.0))
+last_kept replaces last old = kept replaces (option_map map_path_of last.file) (scanned old.device.0 last.no_scrape) (size old.stack.config (mapped old.device.0))
 
 abbrev pub ReportsLastBy : {S D O L : Type 0} → Replaces S → (O → Device) → (L → Listed) → MapFile → List LostRun → S → S → Passing D O → Passing D O → L → L → Counts → Type 0
 ReportsLastBy replaces state told last known images images' old new listing listing' counts =
@@ -139,14 +118,8 @@ module _ {S D E O L : Type 0} (relations : Opener S D) (state : D → Device) (s
   abbrev passed : Moving
   passed = moving (sides old.stack (seen old.out) (told listing)) (sides new.stack (seen new.out) (told listing'))
 
-  abbrev pub PassesMapBy : MapPath → Counts → Type 0
-  PassesMapBy file = IsRescued (calls relations state images images') (map_path_of file) (retried_of old) passed
-
-  abbrev pub StopsMapBy : MapPath → PassFault → Type 0
-  StopsMapBy file = IsUnrescued (calls relations state images images') (map_path_of file) (retried_of old) passed
-
   abbrev pub PassesBy : Option MapPath → Counts → Type 0
-  PassesBy map = Passes (calls relations state images images') (option_map map_path_of map) (retried_of old) passed
+  PassesBy file = Passes (calls relations state images images') (option_map map_path_of file) (retried_of old) passed
 
   abbrev pub StopsBy : Option MapPath → PassFault → Type 0
-  StopsBy map = StopsPass (calls relations state images images') (option_map map_path_of map) (retried_of old) passed
+  StopsBy file = StopsPass (calls relations state images images') (option_map map_path_of file) (retried_of old) passed

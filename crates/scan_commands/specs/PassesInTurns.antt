@@ -1,4 +1,4 @@
--- The passes over a device with a map file, each in turns.
+-- The passes over a device with a map, each in turns.
 use Rattle.std.specs.Prelude.{◌≡◌, ◌⊎◌, ℕ, ◌<◌, ◌==◌, Bool, true, false, List, [], if◌then◌else◌}
 use Rattle.block_device.specs.Device.{Device}
 use Rattle.rescue_map.specs.declared.map.Run.{Run}
@@ -9,7 +9,7 @@ use Rattle.stack_engine.specs.Stacks.{StackRecord}
 use Rattle.stack_recovery.specs.declared.recovery.Counts.{Counts}
 use Rattle.stack_recovery.specs.Listings.{Listed, Tells, kept_runs}
 use Rattle.stack_recovery.specs.Recoveries.{Sides, sides}
-use Rattle.stack_recovery.specs.Retries.{AfterPass, IsEnough, Steps, after_pass}
+use Rattle.scan_commands.specs.Retries.{AfterPass, IsEnough, Steps, after_pass}
 use Rattle.stack_recovery.specs.Joins.{joined_states}
 use Rattle.stack_recovery.specs.LostRuns.{LostRun, is_same_loss}
 use Rattle.runs.specs.Runs.{runs_of}

@@ -20,7 +20,7 @@ use Rattle.stack_recovery.specs.declared.discard.Discard.{Discard}
 use Rattle.scan_commands.specs.declared.pass_counts.PassCounts.{PassCounts}
 use Rattle.stack_recovery.specs.Listings.{Listed}
 use Rattle.stack_recovery.specs.Recoveries.{sides}
-use Rattle.stack_recovery.specs.Retries.{retried}
+use Rattle.scan_commands.specs.Retries.{retried}
 use Rattle.scan_commands.specs.declared.recovering_fault.RecoveringFault.{RecoveringFault}
 use Rattle.charts.specs.declared.form.ReportForm.{ReportForm}
 use Rattle.scan_commands.specs.declared.scan.ScanPlan.{ScanPlan}

@@ -1,7 +1,7 @@
--- A device that is read by a pass in turns, with its map file replaced after each turn.
-use Rattle.std.specs.Prelude.{◌≡◌, ℕ, ◌+◌, ◌-◌, ◌*◌, ◌/◌, ◌<◌, ◌≤◌, max, min, Bool, true, false, List, length, replicate, Some, Result, Ok}
+-- A device that is read by a pass in turns. If it has a map file, this is replaced after each turn; else one turn covers the device.
+use Rattle.std.specs.Prelude.{◌≡◌, ℕ, ◌+◌, ◌-◌, ◌*◌, ◌/◌, ◌<◌, ◌≤◌, max, min, Bool, true, false, List, length, replicate, Option, Some, None, Result, Ok}
 use Rattle.std.specs.List.{list_all}
-use Rattle.block_device.specs.Device.{synced}
+use Rattle.block_device.specs.Device.{Device, synced}
 use Rattle.rescue_map.specs.declared.map.Run.{Run}
 use Rattle.rescue_map.specs.declared.splicing.Span.{Span}
 use Rattle.rescue_map.specs.Maps.{marks, spliced_marks}
@@ -11,13 +11,13 @@ use Rattle.rescue_map.specs.declared.stepping.Step.{Step}
 use Rattle.rescue_map.specs.MapText.{map_text}
 use Rattle.rescue_map.specs.Stages.{statuses}
 use Rattle.rescue_map.specs.Steps.{stepped_statuses, untaken_marks}
+use Rattle.stack_recovery.specs.declared.deadline.Deadline.{Deadline}
 use Rattle.stack_recovery.specs.declared.recovery.Counts.{Counts}
-use Rattle.stack_recovery.specs.FirstPasses.{SkimsTo, skimmed, skipping}
+use Rattle.stack_recovery.specs.FirstPasses.{SkimsTo, skimmed, skipping, transfer_of}
 use Rattle.stack_recovery.specs.Skips.{least_skip, most_skip}
 use Rattle.stack_rules.specs.Names.{mapped, size}
 use Rattle.stack_recovery.specs.PassPieces.{Scanned, scanned}
 use Rattle.stack_recovery.specs.Recoveries.{GoesOverTo, Sides, sides}
-use Rattle.stack_recovery.specs.TwoPasses.{transfer_of}
 use Rattle.image_files.specs.declared.texts.ReplaceFault.{ReplaceFault}
 use Rattle.scan_commands.specs.MapFiles.{MapPathRecord}
 use Rattle.scan_commands.specs.declared.phase.Phase.{Phase}
@@ -28,14 +28,14 @@ use Rattle.scan_commands.specs.declared.turn_reads.ReadMap.{ReadMap}
 abbrev pub Replaces : Type 0 → Type 1
 Replaces S = S → List ℕ → List ℕ → Result (Unit {0}) ReplaceFault → S → Type 0
 
--- a device of so many sectors and how it is scanned, its map file, and how the file is replaced
+-- a device of so many sectors and how it is scanned, its map file, if there is one, and how the file is replaced
 pub record Kept (S : Type 0) : Type 1 where
   pub replaces : Replaces S
-  pub file : MapPathRecord
+  pub file : Option MapPathRecord
   pub scan : Scanned
   pub sectors : ℕ
 
-abbrev pub kept : {S : Type 0} → Replaces S → MapPathRecord → Scanned → ℕ → Kept S
+abbrev pub kept : {S : Type 0} → Replaces S → Option MapPathRecord → Scanned → ℕ → Kept S
 kept replaces file scan sectors = record { replaces = replaces; file = file; scan = scan; sectors = sectors }
 
 -- the opener, the stack with the output device and the reported lines, and the map; the sectors before `at` are done, and after the next
@@ -81,20 +81,26 @@ begun_with phase sectors images sides runs = progressed images sides runs 0 (min
 abbrev pub made_map : List Run → ℕ → ReadMap
 made_map runs skip = record { map = runs; skip = skip }
 
--- the most sectors of a turn: 64 MiB, or of a device above 4 TiB about a 65,536th, in whole groups of eight sectors
-unfoldable pub turn_len : ℕ → ℕ
-turn_len sectors = max 131072 ((sectors / 524288 + 1) * 8)
+-- how many sectors a turn covers after which a map file is replaced: 64 MiB, or of a device above 4 TiB about a 65,536th, in whole groups of
+-- eight sectors
+unfoldable pub kept_len : ℕ → ℕ
+kept_len sectors = max 131072 ((sectors / 524288 + 1) * 8)
+
+-- how many sectors a turn covers: all if there is no map file
+abbrev pub turn_len : Option MapPathRecord → ℕ → ℕ
+turn_len None sectors = sectors
+turn_len (Some file) sectors = kept_len sectors
 
 -- the marks that a turn reads by: in the span those of the sectors that the pass doesn't read; all other sectors count as read before,
 -- so that they aren't read
 abbrev pub asked_marks : Phase → Span → ℕ → List Run → List Bool
 asked_marks phase span sectors runs = spliced_marks span (replicate sectors true) (untaken_marks (step_of phase).takes runs)
 
--- the next sectors
-pub record IsSpan (sectors at : ℕ) (span : Span) (at' : ℕ) : Type 0 where
+-- the next sectors that a turn covers
+pub record IsSpan (file : Option MapPathRecord) (sectors at : ℕ) (span : Span) (at' : ℕ) : Type 0 where
   pub first : span.first ≡ at
   pub some : 1 ≤ span.count
-  pub few : span.count ≤ turn_len sectors
+  pub count : span.count ≡ min (turn_len file sectors) (sectors - at)
   pub end : at' ≡ at + span.count
   pub inside : at' ≤ sectors
 
@@ -122,28 +128,48 @@ ReadsSectors later wanted before scan old made new = ReadsLeft before (scan_in l
 abbrev pub span_between : ℕ → ℕ → Span
 span_between first end = record { first = first; count = end - first }
 
+-- a turn that begins at sector `first` may end early once a time is up, but not without a map file
+abbrev pub IsTurnDeadline : Option MapPathRecord → ℕ → Option Deadline → Type 0
+IsTurnDeadline None first deadline = deadline ≡ None
+IsTurnDeadline (Some file) first deadline = (seconds : ℕ) × (deadline ≡ Some (record { first = first; seconds = seconds }))
+
+-- the output device after a turn: synced if there is a map file
+abbrev pub synced_by : Option MapPathRecord → Device → Device
+synced_by None out = out
+synced_by (Some file) out = synced out
+
+-- the map file was replaced by a map; without one the opener isn't called
+abbrev pub KeepsMap : {S : Type 0} → Replaces S → Option MapPathRecord → Bool → List Run → S → S → Type 0
+KeepsMap replaces None no_scrape runs old new = new ≡ old
+KeepsMap replaces (Some file) no_scrape runs old new = replaces old file.path (map_text file.kind no_scrape runs file.tail) (Ok tt) new
+
+-- a turn without a map file reads up to the end of the device
+abbrev pub IsUpTo : Option MapPathRecord → ℕ → ℕ → Type 0
+IsUpTo None sectors at = at ≡ sectors
+IsUpTo (Some file) sectors at = at ≤ sectors
+
 -- A turn, of the next sectors or the first of them. Those with the status that the pass takes were read, and the readable ones were copied
--- to the other device, which was synced. Then the map file was replaced by the new map.
+-- to the other device. If there is a map file, that device was synced, and then the file replaced by the new map.
 pub record IsTurn {S : Type 0} (k : Kept S) (phase : Phase) (old new : Progressed S) : Type 0 where
   pub span : Span
   pub end : ℕ
-  pub next : IsSpan k.sectors old.at span end
+  pub next : IsSpan k.file k.sectors old.at span end
   pub left : Sides
   pub made : ReadMap
   pub reads : ReadsSectors phase old.skip (asked_marks phase span k.sectors old.runs) k.scan old.sides made left
-  pub on_medium : new.sides ≡ sides left.stack (synced left.out) left.printed
+  pub on_medium : new.sides ≡ sides left.stack (synced_by k.file left.out) left.printed
   pub some : old.at < new.at
-  pub few : length (marks made.map) ≤ k.sectors
+  pub few : IsUpTo k.file k.sectors (length (marks made.map))
   pub here : new.at ≡ min end (length (marks made.map))
   pub whole : length (marks new.runs) ≡ length (marks old.runs)
   pub map : statuses new.runs ≡ stepped_statuses (step_of phase) (span_between old.at new.at) old.runs made.map
   pub skip : new.skip ≡ made.skip
-  pub written : k.replaces old.images k.file.path (map_text k.file.kind k.scan.no_scrape new.runs k.file.tail) (Ok tt) new.images
+  pub written : KeepsMap k.replaces k.file k.scan.no_scrape new.runs old.images new.images
 
 -- none of the next sectors has the status that the pass takes, so that nothing is done
 pub record IsSkipped {S : Type 0} (k : Kept S) (phase : Phase) (old new : Progressed S) : Type 0 where
   pub span : Span
-  pub next : IsSpan k.sectors old.at span new.at
+  pub next : IsSpan k.file k.sectors old.at span new.at
   pub runs : List Run
   pub asked : marks runs ≡ asked_marks phase span k.sectors old.runs
   pub none : list_all (λ run. run.had) runs ≡ true

@@ -3,7 +3,7 @@ ghost use Rattle.std.specs.Prelude.{◌≡◌, ◌^◌, ◌≤◌, false, length
 ghost use Rattle.allocation.specs.Refusal.{IsOutOfMemory};
 ghost use Rattle.image_files.specs.Opener.{calls};
 ghost use Rattle.rescue_map.specs.Maps.{marks};
-ghost use Rattle.scan_commands.specs.MapFiles.{IsMapOfText, IsMapUnread, IsTextUnread, IsUnread, ReadsMap, continues, map_at, map_path_of};
+ghost use Rattle.scan_commands.specs.MapFiles.{BeginsMap, IsMapOfText, IsMapUnread, IsTextUnread, IsUnread, LacksMap, ReadsMap, continues, map_at, map_path_of, with_tail};
 ghost use Rattle.scan_commands.specs.declared.rescue_fault.PassFault.TheVariants as pass_fault;
 
 use crate::phase::Phase;
@@ -31,13 +31,49 @@ pub fn map_at<'a>(path: Option<&'a str>, kind: MapKind) -> Option<MapPath<'a>>
     Some(MapPath { path, kind, tail })
 }
 
-/// A map of a device, the file that it is kept in, the pass that goes by it, and whether unscraped sectors are left.
+/// Returns the file whose maps have these bytes after the device's sectors.
+pub(crate) fn with_tail<'a>(file: Option<MapPath<'a>>, tail: Tail) -> Option<MapPath<'a>>
+    ensures { option_map map_path_of result ≡ with_tail (option_map map_path_of file.entry) tail }
+{
+    let kept = file?;
+    Some(MapPath {
+        path: kept.path,
+        kind: kept.kind,
+        tail,
+    })
+}
+
+/// A map of a device, the file that it is kept in, if there is one, the pass that goes by it, and whether unscraped sectors are left.
 #[derive(Drop)]
 pub struct MapFile<'a> {
-    pub file: MapPath<'a>,
+    pub file: Option<MapPath<'a>>,
     pub map: Map,
     pub phase: Phase,
     pub no_scrape: bool,
+}
+
+/// Returns the map that the passes over a device of `sectors` sectors begin with: that of the map file, or without one a map that marks no
+/// sector as read.
+///
+/// # Errors
+///
+/// - Those of [`read_map`].
+/// - Without a map file `NoMemory` if the allocator refused memory for the map's run.
+pub(crate) fn begin_map<'a, I: Images>(
+    alloc: Global,
+    images: &mut I,
+    file: Option<MapPath<'a>>,
+    sectors: u64,
+) -> Result<ParsedMap, PassFault<'a>>
+    requires { sectors ≤ 2 ^ 54 }
+    ensures ok { IfOk result (BeginsMap (calls I.relations I.Dev.state images.old images.new) (option_map map_path_of file.entry) sectors) }
+    ensures sectors { IfOk result (λ begun. length (marks begun.map) ≡ sectors) }
+    ensures err { IfErr result (LacksMap (calls I.relations I.Dev.state images.old images.new) (option_map map_path_of file.entry) sectors) }
+{
+    match file {
+        None => new_map(alloc, sectors),
+        Some(kept) => read_map(alloc, images, kept, sectors),
+    }
 }
 
 /// Returns the map of a device of `sectors` sectors that a file holds, with the bytes that it has after these. The map marks no sector

@@ -28,16 +28,16 @@ pub(crate) fn count_pass<'a, I: Images, D: BlockDev, O: SyncDev, L: Listing, P: 
     alloc: Global,
     images: &mut I,
     passing: &mut Passing<D, O>,
-    map: Option<MapPath<'a>>,
+    file: Option<MapPath<'a>>,
     listing: &mut L,
     progress: &mut P,
 ) -> Result<PassCounts, PassFault<'a>>
     requires { CanPass O.state passing.old }
-    ensures ok { IfOk result (CountsPassBy I.relations I.Dev.state O.state L.told images.old images.new passing.old passing.new listing.old listing.new map.entry) }
-    ensures err { IfErr result (StopsBy I.relations I.Dev.state O.state L.told images.old images.new passing.old passing.new listing.old listing.new map.entry) }
+    ensures ok { IfOk result (CountsPassBy I.relations I.Dev.state O.state L.told images.old images.new passing.old passing.new listing.old listing.new file.entry) }
+    ensures err { IfErr result (StopsBy I.relations I.Dev.state O.state L.told images.old images.new passing.old passing.new listing.old listing.new file.entry) }
 {
     let before = passing.stack.restored();
-    let sectors = run_pass(alloc, images, passing, map, listing, progress)?;
+    let sectors = run_pass(alloc, images, passing, file, listing, progress)?;
     let restored = passing.stack.restored().saturating_sub(before);
     Ok(PassCounts { sectors, restored })
 }

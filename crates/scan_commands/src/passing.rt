@@ -1,11 +1,11 @@
-//! A pass over a mapped device, with or without a map file.
+//! The passes over a mapped device, with or without a map file.
 ghost use Rattle.std.specs.Prelude.{◌≡◌, length, IfOk, IfErr};
 ghost use Rattle.rescue_map.specs.Maps.{marks};
 ghost use Rattle.stack_rules.specs.Names.{mapped, size};
-ghost use Rattle.scan_commands.specs.Passes.{CanPass, EndsLargeMapBy, EndsLastBy, LeavesPassing, PassesBy, PassesMapBy, ReadsLargeMapBy, ReportsLastBy, StopsBy, StopsMapBy};
+ghost use Rattle.scan_commands.specs.Passes.{CanPass, EndsLargeMapBy, EndsLastBy, LeavesPassing, PassesBy, ReadsLargeMapBy, ReportsLastBy, StopsBy};
 ghost use Rattle.scan_commands.specs.PassesInTurns.{counts_of};
 
-use crate::map_file::{MapFile, MapPath, read_map};
+use crate::map_file::{MapFile, MapPath, begin_map, with_tail};
 use crate::phase::{Phase, phase_after};
 use crate::rescue_fault::PassFault;
 use crate::retries::retry_in_turns;
@@ -17,9 +17,7 @@ use image_files::Images;
 use rescue_map::{Map, ParsedMap, Totals, totals_of};
 use stack_config::DevId;
 use stack_engine::Stack;
-use stack_recovery::{
-    Counts, KeptRuns, Listing, LostRun, NoListing, RecoveryPlan, recover_with, tell_among_bad,
-};
+use stack_recovery::{Counts, KeptRuns, Listing, LostRun, NoListing, tell_among_bad};
 use std::alloc::Global;
 
 /// A mapped device of a stack, the device that its readable sectors are copied to, how many times lost sectors are read again, and
@@ -34,14 +32,15 @@ pub struct Passing<D: BlockDev, O> {
 }
 
 /// Reads each sector of a mapped device, copies the readable sectors to the same offset of another device, and reports the
-/// longest runs of sectors that are lost by one fault. The first pass skips ahead after failed reads, and the second one reads
-/// what the first one left. Then sectors that are lost are read again, at most as many times as the retries. Only the last pass
-/// reports.
+/// longest runs of sectors that aren't recovered by one fault.
 ///
-/// With a map file each pass reads the sectors of one status: those in large pieces what is untried, the one that trims what is untrimmed,
-/// the one that scrapes, if any, what is unscraped, and those that read lost sectors again what is bad. Runs are reported after the last
-/// pass, also of sectors that no pass read, by the fault of binding 0. Each pass goes in turns; after each turn the other device is synced
-/// and the map file replaced. Without a map file the opener isn't called, and nothing is synced.
+/// Each pass reads the sectors of one status of a map: those in large pieces what is untried, the one that trims what is untrimmed, the one
+/// that scrapes, if any, what is unscraped, and those that read lost sectors again what is bad. The first pass skips ahead after failed
+/// reads, and the second one reads what the first one left. Runs are reported after the last pass, also of sectors that no pass read, by the
+/// fault of binding 0.
+///
+/// With a map file each pass goes in turns; after each turn the other device is synced and the map file replaced. Without a map file the map
+/// is kept in memory, the opener isn't called, and nothing is synced.
 ///
 /// # Errors
 ///
@@ -53,54 +52,20 @@ pub fn run_pass<'a, I: Images, D: BlockDev, O: SyncDev, L: Listing, P: Progress>
     alloc: Global,
     images: &mut I,
     passing: &mut Passing<D, O>,
-    map: Option<MapPath<'a>>,
+    file: Option<MapPath<'a>>,
     listing: &mut L,
     progress: &mut P,
 ) -> Result<Counts, PassFault<'a>>
     requires { CanPass O.state passing.old }
-    ensures ok { IfOk result (PassesBy I.relations I.Dev.state O.state L.told images.old images.new passing.old passing.new listing.old listing.new map.entry) }
-    ensures err { IfErr result (StopsBy I.relations I.Dev.state O.state L.told images.old images.new passing.old passing.new listing.old listing.new map.entry) }
-{
-    match map {
-        None => Ok(recover_with(
-            alloc,
-            &mut passing.stack,
-            RecoveryPlan {
-                device: passing.device,
-                retries: passing.retries,
-                no_scrape: passing.no_scrape,
-            },
-            &mut passing.out,
-            listing,
-            progress,
-        )?),
-        Some(file) => pass_by_map(alloc, images, passing, file, listing, progress),
-    }
-}
-
-// Runs the pass with a map file.
-fn pass_by_map<'a, I: Images, D: BlockDev, O: SyncDev, L: Listing, P: Progress>(
-    alloc: Global,
-    images: &mut I,
-    passing: &mut Passing<D, O>,
-    file: MapPath<'a>,
-    listing: &mut L,
-    progress: &mut P,
-) -> Result<Counts, PassFault<'a>>
-    requires { CanPass O.state passing.old }
-    ensures ok { IfOk result (PassesMapBy I.relations I.Dev.state O.state L.told images.old images.new passing.old passing.new listing.old listing.new file.entry) }
-    ensures err { IfErr result (StopsMapBy I.relations I.Dev.state O.state L.told images.old images.new passing.old passing.new listing.old listing.new file.entry) }
+    ensures ok { IfOk result (PassesBy I.relations I.Dev.state O.state L.told images.old images.new passing.old passing.new listing.old listing.new file.entry) }
+    ensures err { IfErr result (StopsBy I.relations I.Dev.state O.state L.told images.old images.new passing.old passing.new listing.old listing.new file.entry) }
 {
     let _most = passing.out.sectors(); // the bound on a device's sectors
     let device = passing.device;
     let no_scrape = passing.no_scrape;
     let sectors = passing.stack.config().sectors(device);
-    let ParsedMap { map, tail } = read_map(alloc, images, file, sectors)?;
-    let file = MapPath {
-        path: file.path,
-        kind: file.kind,
-        tail,
-    };
+    let ParsedMap { map, tail } = begin_map(alloc, images, file, sectors)?;
+    let file = with_tail(file, tail);
     let swept = read_large_in_turns(alloc, images, passing, file, map, progress)?;
     let trimmed = trim_in_turns(alloc, images, passing, file, swept, progress)?;
     let TrimmedMap { map, known } = trimmed;
@@ -121,7 +86,7 @@ fn read_large_in_turns<'a, I: Images, D: BlockDev, O: SyncDev, P: Progress>(
     alloc: Global,
     images: &mut I,
     passing: &mut Passing<D, O>,
-    file: MapPath<'_>,
+    file: Option<MapPath<'_>>,
     map: Map,
     progress: &mut P,
 ) -> Result<Map, PassFault<'a>>

@@ -1,4 +1,4 @@
-//! The passes by a map file that report nothing.
+//! The passes by single sectors that report nothing.
 ghost use Rattle.std.specs.Prelude.{◌≡◌, ◌≤◌, ◌<◌, length, IfErr, IfOk};
 ghost use Rattle.rescue_map.specs.Maps.{marks};
 ghost use Rattle.stack_rules.specs.Names.{mapped, size};
@@ -34,7 +34,7 @@ pub(crate) fn retry_in_turns<'a, I: Images, D: BlockDev, O: SyncDev, P: Progress
     alloc: Global,
     images: &mut I,
     passing: &mut Passing<D, O>,
-    file: MapPath<'_>,
+    file: Option<MapPath<'_>>,
     map: Map,
     progress: &mut P,
 ) -> Result<TriedMap, PassFault<'a>>

@@ -1,4 +1,4 @@
-//! The pass by a map file that reads failed pieces from both edges.
+//! The pass that reads failed pieces from both edges.
 ghost use Rattle.std.specs.Prelude.{◌≡◌, length, IfErr, IfOk};
 ghost use Rattle.rescue_map.specs.Maps.{marks};
 ghost use Rattle.stack_rules.specs.Names.{mapped, size};
@@ -33,7 +33,7 @@ pub(crate) fn trim_in_turns<'a, I: Images, D: BlockDev, O: SyncDev, P: Progress>
     alloc: Global,
     images: &mut I,
     passing: &mut Passing<D, O>,
-    file: MapPath<'_>,
+    file: Option<MapPath<'_>>,
     map: Map,
     progress: &mut P,
 ) -> Result<TrimmedMap, PassFault<'a>>

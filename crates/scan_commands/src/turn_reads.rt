@@ -17,18 +17,18 @@ use stack_recovery::{Deadline, DevicePass, FirstPass, Listing, RecoveryFault, re
 use std::alloc::Global;
 
 /// A turn of a pass: whether a later pass scrapes, its sectors, the map before it, the map that the turn reads by, how many sectors the pass
-/// skips after its next failed read, and the time at which the turn ends early.
+/// skips after its next failed read, and when the turn ends early.
 #[derive(Clone, Copy)]
 pub(crate) struct NextTurn<'a> {
     pub(crate) phase: Phase,
     pub(crate) no_scrape: bool,
     pub(crate) span: Span,
     pub(crate) sectors: u64,
-    pub(crate) file: MapPath<'a>,
+    pub(crate) file: Option<MapPath<'a>>,
     pub(crate) map: &'a Map,
     pub(crate) wanted: &'a Map,
     pub(crate) skip: u64,
-    pub(crate) seconds: u64,
+    pub(crate) deadline: Option<Deadline>,
 }
 
 /// The map of the sectors that were read, in which the failed pieces of a pass in large pieces are bad, and how many sectors the pass skips
@@ -55,27 +55,22 @@ pub(crate) fn read_turn<D: BlockDev, O: SyncDev, L: Listing, P: Progress>(
     progress: &mut P,
 ) -> Result<ReadMap, RecoveryFault>
     requires device { d.0 < length stack.old.config.devices }
-    requires some { turn.span.first < size stack.old.config (mapped d.0) }
     requires fits { length (marks turn.wanted.now) ≡ size stack.old.config (mapped d.0) }
     requires room { size stack.old.config (mapped d.0) ≤ (O.state out.old).size }
     requires allowed { IsTrue (O.state out.old).may_write }
     ensures ok { IfOk result (ReadsTurnBy O.state L.told d.0 turn.entry (parties stack.old out.old listing.old) (parties stack.new out.new listing.new)) }
     ensures err { IfErr result (EndsTurnRead O.state L.told d.0 turn.entry (parties stack.old out.old listing.old) (parties stack.new out.new listing.new)) }
 {
-    let deadline = Some(Deadline {
-        first: turn.span.first,
-        seconds: turn.seconds,
-    });
     let first = FirstPass {
         device: d,
         skip: turn.skip,
         most: most_skipped(turn.phase, stack.config().sectors(d)),
-        deadline,
+        deadline: turn.deadline,
     };
     let pass = DevicePass {
         device: d,
         no_scrape: is_trim(turn.phase),
-        deadline,
+        deadline: turn.deadline,
     };
     match turn.phase {
         Phase::Skim => skim_left(alloc, stack, first, out, turn.wanted, progress),

@@ -10,7 +10,14 @@ use Rattle.stack_engine.specs.Stacks.{StackRecord}
 use Rattle.stack_recovery.specs.PassLaws.{FailuresAreFew, failed_reads}
 use Rattle.stack_recovery.specs.Skims.{marks_of}
 use Rattle.stack_recovery.specs.Surveys.{AnswersFinding, Finding, again, had, kept, lost, probed, trimmed}
-use Rattle.stack_recovery.proofs.SkimEndLemmas.{found-config}
+
+found-config : (d first : ℕ) (w : StackRecord) (n : ℕ) (found : Finding) (w' : StackRecord) → AnswersFinding w d first n found w' → w'.config ≡ w.config
+found-config d first w n (had bytes) w' a = a.any.config
+found-config d first w n (lost fault) w' a = a.any.config
+found-config d first w n (again fault) w' a = a.any.config
+found-config d first w n (probed behind bytes) w' a = a.any.config
+found-config d first w n (trimmed behind fault) w' a = a.any.config
+found-config d first w n kept w' a = ap (λ (s : StackRecord). s.config) a
 
 one-more : (n : ℕ) → n ≤ n + 1
 one-more n = omega arith
@@ -48,5 +55,5 @@ piece-fails d first w n kept w' none a = omega (arith, ap (λ (s : StackRecord).
 pub failures-are-few : FailuresAreFew
 failures-are-few marks d first w [] w' none h = omega (arith, ap (λ (s : StackRecord). sum (failures_of s.leaves)) h)
 failures-are-few marks d first w (s ∷ more) w' none h =
-    let later : HasNoParity s.piece.after.config = subst HasNoParity (sym (found-config marks d first w s.piece.count s.piece.found s.piece.after h.0.answered)) none in
+    let later : HasNoParity s.piece.after.config = subst HasNoParity (sym (found-config d first w s.piece.count s.piece.found s.piece.after h.0.answered)) none in
     omega (arith, piece-fails d first w s.piece.count s.piece.found s.piece.after none h.0.answered, failures-are-few marks d (first + length (marks_of s)) s.piece.after more w' later h.1)

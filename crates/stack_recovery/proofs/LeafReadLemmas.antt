@@ -1,11 +1,11 @@
--- The calls of a pass: a piece more, and passes after others.
-use Rattle.std.proofs.Common.{◌≡◌, ℕ, ◌+◌, Bool, true, List, Ok, Err, add-zero, inl, inr, subst, sym}
+-- The calls of a pass: a piece more.
+use Rattle.std.proofs.Common.{◌≡◌, ℕ, ◌+◌, Bool, true, List, Ok, Err, add-zero, subst, sym}
 use Rattle.block_device.specs.Call.{Call, Write}
 use Rattle.block_device.specs.Device.{Device}
 use Rattle.stack_meaning.specs.declared.fault.IoFault.{IoFault}
 use Rattle.stack_engine.specs.Pieces.{PieceGives}
 use Rattle.stack_engine.specs.Stacks.{StackRecord}
-use Rattle.stack_recovery.specs.LeafReads.{CopiesLeaves, CopiesPasses, EndsCopying, EndsPasses, no_pass, one_pass, piece_copied, piece_failed}
+use Rattle.stack_recovery.specs.LeafReads.{CopiesLeaves, piece_copied, piece_failed}
 
 module _ {D O : Type 0} (state : D → Device) (does : D → Call → D → Type 0) (Did : O → Call → O → Type 0) (marks : List Bool) (d : ℕ) (w : StackRecord) (o : O) (at : ℕ) (v v' : StackRecord) (p : O) (h : CopiesLeaves state does Did marks d w o at v p) (n : ℕ) where
   -- the piece was read and written, and its length is stated otherwise
@@ -19,19 +19,3 @@ module _ {D O : Type 0} (state : D → Device) (does : D → Call → D → Type
   -- its read failed, and the pass goes on further on
   pub copies-failed : (further : ℕ) (fault : IoFault) → PieceGives state does v (d, at) n (Err fault) v' → CopiesLeaves state does Did marks d w o (at + further) v' p
   copies-failed further fault given = piece_failed 0 n further fault h (subst (λ (k : ℕ). PieceGives state does v (d, k) n (Err fault) v') (sym (add-zero at)) given)
-
-pub passes-then : {D O : Type 0} {state : D → Device} {does : D → Call → D → Type 0} {Did : O → Call → O → Type 0} {d : ℕ} {w v : StackRecord} {o p : O} {w' : StackRecord} {o' : O}
-    → CopiesPasses state does Did d w o v p → CopiesPasses state does Did d v p w' o' → CopiesPasses state does Did d w o w' o'
-passes-then h no_pass = h
-passes-then h (one_pass marks end more last) = one_pass marks end (passes-then h more) last
-
--- passes, and one that ended early
-pub passes-end : {D O : Type 0} (state : D → Device) (does : D → Call → D → Type 0) (Did : O → Call → O → Type 0) (marks : List Bool) (d : ℕ) (w v w' : StackRecord) (o p o' : O)
-    → CopiesPasses state does Did d w o v p → EndsCopying state does Did marks d v p w' o' → EndsPasses state does Did d w o w' o'
-passes-end state does Did marks d w v w' o p o' h (inl x) = inl (one_pass marks x.0 h x.1)
-passes-end state does Did marks d w v w' o p o' h (inr x) = inr (record { left = v; out = p; marks = marks; passes = h; last = x })
-
-pub ends-then : {D O : Type 0} (state : D → Device) (does : D → Call → D → Type 0) (Did : O → Call → O → Type 0) (d : ℕ) (w v w' : StackRecord) (o p o' : O)
-    → CopiesPasses state does Did d w o v p → EndsPasses state does Did d v p w' o' → EndsPasses state does Did d w o w' o'
-ends-then state does Did d w v w' o p o' h (inl more) = inl (passes-then h more)
-ends-then state does Did d w v w' o p o' h (inr x) = inr (record { left = x.left; out = x.out; marks = x.marks; passes = passes-then h x.passes; last = x.last })

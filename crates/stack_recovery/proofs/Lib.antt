@@ -7,12 +7,8 @@ mod LostRunLemmas
 mod FailureLemmas
 mod SkimLawLemmas
 mod HandingLemmas
-mod LargeLemmas
 mod LeafReadLemmas
-mod MeantLemmas
 mod PieceLemmas
-mod RetryLemmas
-mod SkimEndLemmas
 mod SkimLemmas
 mod SkimPieceLemmas
 mod StretchLemmas

@@ -28,7 +28,7 @@ unskipped p first n (probed behind bytes) skip h = absurd h
 unskipped p first n (trimmed behind fault) skip h = absurd h
 unskipped p first n kept skip h = h
 
-still-none : (found : Finding) → skip_after 0 0 found ≡ 0
+pub still-none : (found : Finding) → skip_after 0 0 found ≡ 0
 still-none (had bytes) = omega arith
 still-none (lost fault) = refl
 still-none (again fault) = omega arith

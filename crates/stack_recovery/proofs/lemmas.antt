@@ -1,5 +1,6 @@
 -- What callers may cite.
 pub mod JoinLemmas
 pub mod LostLemmas
-pub mod StepLemmas
+pub mod MeantLemmas
+pub mod SkimMeantLemmas
 pub mod WritingLemmas

@@ -1,10 +1,9 @@
 -- The effects of a pass over a mapped device in large pieces.
-use Rattle.std.specs.Prelude.{◌≡◌, ◌⊎◌, ℕ, Bool, false, IsTrue, List, ◌++◌, length, replicate, Option, Ok}
+use Rattle.std.specs.Prelude.{◌≡◌, ◌⊎◌, ℕ, Bool, false, IsTrue, List, ◌++◌, length, Option, Ok}
 use Rattle.allocation.specs.Refusal.{IsOutOfMemory}
 use Rattle.block_device.specs.Call.{Call, Calls}
 use Rattle.block_device.specs.Device.{Device, HasFailed, IsSameDevice, IsWritten}
 use Rattle.stack_rules.specs.Names.{mapped, size}
-use Rattle.stack_rules.specs.Records.{Configuration}
 use Rattle.stack_engine.specs.Bytes.{EachBytes}
 use Rattle.stack_engine.specs.Stacks.{StackRecord}
 use Rattle.rescue_map.specs.declared.map.Run.{Run}
@@ -17,7 +16,7 @@ use Rattle.stack_recovery.specs.declared.skimming.Skimmed.{Skimmed}
 use Rattle.stack_recovery.specs.Deadlines.{EndsAt}
 use Rattle.stack_recovery.specs.Handing.{IsLastCall}
 use Rattle.stack_recovery.specs.PassPieces.{pass_over}
-use Rattle.stack_recovery.specs.Recoveries.{FindsNoMemory}
+use Rattle.stack_recovery.specs.Recoveries.{FindsNoMemory, Sides}
 use Rattle.stack_recovery.specs.Skims.{AreSkims, IsSkimOver, Skim, skim_calls, skim_failed, skim_image, skim_marks, skip_from}
 
 -- a stack, and the output device that its sectors are copied to
@@ -28,13 +27,13 @@ pub record Transfer (O : Type 0) : Type 0 where
 abbrev pub transfer : {O : Type 0} → StackRecord → O → Transfer O
 transfer stack out = record { stack = stack; out = out }
 
+-- without the reported lines
+abbrev pub transfer_of : Sides → Transfer Device
+transfer_of s = transfer s.stack s.out
+
 -- the output device's state, as a proof sees it
 abbrev pub seen_transfer : {O : Type 0} → (O → Device) → Transfer O → Transfer Device
 seen_transfer state t = transfer t.stack (state t.out)
-
--- no sector of device d was read before
-abbrev pub unread_marks : Configuration → ℕ → List Bool
-unread_marks c d = replicate (size c (mapped d)) false
 
 abbrev pub skimmed : List Run → ℕ → Skimmed
 skimmed map skip = record { map = map; skip = skip }
@@ -67,10 +66,6 @@ pub record SkimsTo (skipping : Skipping) (before : List Bool) (d end : ℕ) (old
   pub unfailed : new.out.failures ≡ old.out.failures
   pub noted : marks made.map ≡ skim_marks skims
   pub failed : losts made.map ≡ skim_failed skims
-
--- the pass over all sectors
-abbrev pub Skims : Skipping → List Bool → ℕ → Transfer Device → Skimmed → Transfer Device → Type 0
-Skims skipping before d old made new = SkimsTo skipping before d (size old.stack.config (mapped d)) old made new
 
 -- the pass over the sectors of its map, which ended there
 pub record SkimsUntil (deadline : Option Deadline) (skipping : Skipping) (before : List Bool) (d : ℕ) (old : Transfer Device) (made : Skimmed) (new : Transfer Device) : Type 0 where
@@ -119,10 +114,7 @@ pub record HandsSkimsTo {O : Type 0} (Did : O → Call → O → Type 0) (before
   pub noted : after ≡ skim_marks skims
   pub made : Calls Did old.out (skim_calls 0 skims) new.out
 
--- those of a pass over all sectors, and of one that made this map
-abbrev pub HandsSkims : {O : Type 0} → (O → Call → O → Type 0) → List Bool → ℕ → Transfer O → List Bool → Transfer O → Type 0
-HandsSkims Did before d old after new = HandsSkimsTo Did before d (size old.stack.config (mapped d)) old after new
-
+-- those of a pass that made this map
 abbrev pub HandsSkimsUntil : {O : Type 0} → (O → Call → O → Type 0) → List Bool → ℕ → Transfer O → Transfer O → Skimmed → Type 0
 HandsSkimsUntil Did before d old new made = HandsSkimsTo Did before d (length (marks made.map)) old (marks made.map) new
 

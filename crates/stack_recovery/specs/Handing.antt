@@ -1,7 +1,6 @@
 -- The calls on the output device of a recovery.
 use Rattle.std.specs.Prelude.{◌≡◌, ℕ, ◌+◌, Bool, true, false, List, [], ◌∷◌, ◌++◌, length, Option, Some, Ok}
 use Rattle.block_device.specs.Call.{Call, Calls, Write}
-use Rattle.stack_rules.specs.Names.{mapped, size}
 use Rattle.stack_engine.specs.Bytes.{EachBytes}
 use Rattle.stack_engine.specs.Stacks.{StackRecord}
 use Rattle.rescue_map.specs.declared.map.Run.{Run}
@@ -32,10 +31,7 @@ pub record HandsOverTo {O L : Type 0} (Did : O → Call → O → Type 0) (marks
   pub noted : AreMarksNoted after (all_states reads)
   pub made : Calls Did old.out (copy_calls 0 reads) new.out
 
--- those of a pass over all sectors, and of one over the sectors that are counted
-abbrev pub HandsOver : {O L : Type 0} → (O → Call → O → Type 0) → List Bool → ℕ → Parties O L → Option (List Run) → Parties O L → Type 0
-HandsOver Did marks d old after new = HandsOverTo Did marks d (size old.stack.config (mapped d)) old after new
-
+-- those of a pass over the sectors that are counted
 abbrev pub HandsOverUntil : {O L : Type 0} → (O → Call → O → Type 0) → DevicePass → List Bool → Parties O L → Option (List Run) → Parties O L → Counts → Type 0
 HandsOverUntil Did pass marks old after new counts = HandsOverTo Did marks pass.device.0 (counted_sectors counts) old after new
 

@@ -21,12 +21,8 @@ use Rattle.stack_engine.specs.Stacks.{StackRecord}
 use Rattle.runs.specs.Runs.{runs_of}
 use Rattle.stack_recovery.specs.declared.lost_run.Loss.TheVariants.{Lost}
 use Rattle.stack_recovery.specs.LostRuns.{LostRun, is_same_loss}
-use Rattle.stack_recovery.specs.declared.recovery.Counts.{Counts}
 use Rattle.stack_recovery.specs.PassLaws.{AreScraped}
-use Rattle.stack_recovery.specs.Recoveries.{Sides}
-use Rattle.stack_recovery.specs.Retries.{Retried}
 use Rattle.stack_recovery.specs.Surveys.{IsSurveyOver, PieceRead, SectorState, all_states}
-use Rattle.stack_recovery.specs.TwoPasses.{Recovers}
 
 -- ---- on backing devices that are steady and never fail
 
@@ -55,11 +51,6 @@ MarksAreMeant marks d w = (k : ℕ) → slice_index_or marks k false ≡ true �
 abbrev pub SurveysAreMeant : Type 0
 SurveysAreMeant = (marks : List Bool) (d first : ℕ) (w : StackRecord) (reads : List PieceRead) (w' : StackRecord) → IsSurveyOver marks d first w reads w' → AreScraped reads → MarksAreMeant marks d w → AreSure w.config (λ i. stands_on w.config i (mapped d)) w.leaves
     → all_states reads ≡ meant_states (sector w.config (steady_images w.leaves) (mapped d)) first (length (all_states reads))
-
--- and in a recovery in passes that scrape
-abbrev pub StatesAreMeant : Type 0
-StatesAreMeant = (t : Retried) (old : Sides) (counts : Counts) (new : Sides) (r : Recovers t old counts new) → t.no_scrape ≡ false → AreSure old.stack.config (λ i. stands_on old.stack.config i (mapped t.d)) old.stack.leaves
-    → all_states r.rescues.reads ≡ meant_states (sector old.stack.config (steady_images old.stack.leaves) (mapped t.d)) 0 (length (all_states r.rescues.reads))
 
 -- ---- runs
 

@@ -41,24 +41,3 @@ EndsCopying state does Did marks d w o w' o' = ((at : ℕ) × CopiesLeaves state
 abbrev pub CopiesOver : {D O A : Type 0} → (D → Device) → (D → Call → D → Type 0) → (O → Call → O → Type 0) → List Bool → ℕ → StackRecord → O → StackRecord → O → Result A RecoveryFault → (A → ℕ) → Type 0
 CopiesOver state does Did marks d w o w' o' (Ok x) end = CopiesLeaves state does Did marks d w o (end x) w' o'
 CopiesOver state does Did marks d w o w' o' (Err fault) end = EndsCopying state does Did marks d w o w' o'
-
--- passes one after another, each by the marks of what was read before it
-pub data CopiesPasses {D O : Type 0} (state : D → Device) (does : D → Call → D → Type 0) (Did : O → Call → O → Type 0) (d : ℕ) (w : StackRecord) (o : O) : StackRecord → O → Type 0 where
-  no_pass : CopiesPasses state does Did d w o w o
-  one_pass : {v w' : StackRecord} {p o' : O} (marks : List Bool) (end : ℕ) → CopiesPasses state does Did d w o v p → CopiesLeaves state does Did marks d v p end w' o' → CopiesPasses state does Did d w o w' o'
-
--- after other passes one ended with a piece that isn't written
-pub record IsPassUnwritten {D O : Type 0} (state : D → Device) (does : D → Call → D → Type 0) (Did : O → Call → O → Type 0) (d : ℕ) (w : StackRecord) (o : O) (w' : StackRecord) (o' : O) : Type 0 where
-  pub left : StackRecord
-  pub out : O
-  pub marks : List Bool
-  pub passes : CopiesPasses state does Did d w o left out
-  pub last : IsReadUnwritten state does Did marks d left out w' o'
-
-abbrev pub EndsPasses : {D O : Type 0} → (D → Device) → (D → Call → D → Type 0) → (O → Call → O → Type 0) → ℕ → StackRecord → O → StackRecord → O → Type 0
-EndsPasses state does Did d w o w' o' = CopiesPasses state does Did d w o w' o' ⊎ IsPassUnwritten state does Did d w o w' o'
-
--- all calls of passes
-abbrev pub CopiesAll : {D O A : Type 0} → (D → Device) → (D → Call → D → Type 0) → (O → Call → O → Type 0) → ℕ → StackRecord → O → StackRecord → O → Result A RecoveryFault → Type 0
-CopiesAll state does Did d w o w' o' (Ok x) = CopiesPasses state does Did d w o w' o'
-CopiesAll state does Did d w o w' o' (Err fault) = EndsPasses state does Did d w o w' o'

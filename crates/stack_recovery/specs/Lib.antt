@@ -6,7 +6,6 @@ pub mod Handing
 pub mod Laws
 pub mod LeafReads
 pub mod Joins
-pub mod LargePasses
 pub mod Listings
 pub mod LostRuns
 pub mod PieceLimits
@@ -14,12 +13,10 @@ pub mod PassLaws
 pub mod PassPieces
 pub mod Pieces
 pub mod Recoveries
-pub mod Retries
 pub mod Skims
 pub mod Skips
 pub mod Stretches
 pub mod Surveys
 pub mod Texts
 pub mod Trims
-pub mod TwoPasses
 pub mod Losses

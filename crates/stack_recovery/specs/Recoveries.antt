@@ -148,10 +148,6 @@ pub record GoesOverTo (before : List Bool) (scan : Scanned) (end : ℕ) (old : S
   pub noted : AreMarksNoted made (all_states reads)
   pub bad : AreLossesNoted made (all_states reads)
 
--- such a pass over all sectors
-abbrev pub GoesOver : List Bool → Scanned → Sides → Counts → Option (List Run) → Sides → Type 0
-GoesOver before scan old counts made new = GoesOverTo before scan (size old.stack.config (mapped scan.d)) old counts made new
-
 -- how many sectors are counted
 abbrev pub counted_sectors : Counts → ℕ
 counted_sectors counts = counts.read + (counts.lost + counts.untried)
@@ -162,9 +158,6 @@ pub record GoesOverUntil (deadline : Option Deadline) (before : List Bool) (scan
   pub ends : EndsAt deadline (counted_sectors counts) (size old.stack.config (mapped scan.d))
 
 -- the result has that map
-abbrev pub Rescues : List Bool → Scanned → Sides → Rescued → Sides → Type 0
-Rescues before scan old rescued new = GoesOver before scan old rescued.counts (Some rescued.map) new
-
 abbrev pub RescuesUntil : Option Deadline → List Bool → Scanned → Sides → Rescued → Sides → Type 0
 RescuesUntil deadline before scan old rescued new = GoesOverUntil deadline before scan old rescued.counts (Some rescued.map) new
 

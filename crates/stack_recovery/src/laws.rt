@@ -1,11 +1,6 @@
 //! Laws of recoveries: each function's contract states the law, and a call of the function provides it.
-ghost use Rattle.stack_recovery.specs.Laws.{LostBlocksAreLost, RunsAreLongest, StatesAreMeant, SurveysAreMeant};
+ghost use Rattle.stack_recovery.specs.Laws.{LostBlocksAreLost, RunsAreLongest, SurveysAreMeant};
 ghost use Rattle.stack_recovery.specs.PassLaws.{FailuresAreFew, PassesScrape, SkimmedPiecesAreLongest, SweepsTryAll};
-
-/// If the backing devices are steady and never fail, a recovery that scrapes loses a sector exactly if it means a fault, and by that fault.
-pub fn states_are_meant()
-    ensures { StatesAreMeant }
-{}
 
 /// If the devices are steady and never fail and a map marks sectors that mean bytes, `rescue` by it loses those that mean a fault,
 /// if it leaves none unscraped.

@@ -1,35 +1,28 @@
-//! Recovers a mapped device from its first sector to its last.
-ghost use Rattle.std.specs.Prelude.{◌≡◌, ◌≤◌, ◌<◌, ◌^◌, [], false, length, IsTrue, IfOk, IfErr, OnOk};
+//! Reads a mapped device by single sectors, from its first sector to its last.
+ghost use Rattle.std.specs.Prelude.{◌≡◌, ◌≤◌, ◌<◌, ◌^◌, [], length, IsTrue, IfOk, IfErr, OnOk};
 ghost use Rattle.block_device.specs.Call.{DeviceDoes};
 ghost use Rattle.stack_rules.specs.Names.{mapped, size};
 ghost use Rattle.std.specs.Option.{is_some};
 ghost use Rattle.rescue_map.specs.Maps.{marks};
 ghost use Rattle.rescue_map.specs.Aheads.{marks_ahead};
 ghost use Rattle.stack_recovery.specs.Handing.{HandsOverPart, HandsOverUntil};
-ghost use Rattle.stack_recovery.specs.LeafReads.{CopiesAll, CopiesOver};
+ghost use Rattle.stack_recovery.specs.LeafReads.{CopiesOver};
 ghost use Rattle.stack_recovery.specs.Recoveries.{EndsEarlyBy, GoesOverBy, AreLossesNoted, AreMarksNoted, counted_sectors, parties};
-ghost use Rattle.stack_recovery.specs.Retries.{retried, retried_by};
-ghost use Rattle.stack_recovery.specs.TwoPasses.{EndsRecovery, HandsPasses, HandsPassesPart, RecoversBy};
 
 use crate::deadline::{DevicePass, trim_end};
 use crate::fault::RecoveryFault;
-use crate::large::read_large;
 use crate::listing::Listing;
 use crate::losing::{lose_run, lost_run, note_end, tell_end};
 use crate::notes::note;
 use crate::piece::piece_at;
-use crate::rescued::rescue;
-use crate::retries::read_again;
 use crate::skimming::check_memory;
 use crate::stretch::next_stretch;
 use crate::tally::Tally;
 use crate::trimming::lost_end;
 use block_device::BlockDev;
-use device_adapters::{NoProgress, Progress};
+use device_adapters::Progress;
 use rescue_map::{Ahead, Map};
-use stack_config::DevId;
 use stack_engine::Stack;
-use std::alloc::Global;
 
 /// How many sectors were read, how many are lost, and how many are unscraped, of which no other read was tried.
 #[derive(Clone, Copy, Debug, PartialEq, Eq)]
@@ -39,92 +32,8 @@ pub struct Counts {
     pub untried: u64,
 }
 
-/// A mapped device to be recovered, how many times its lost sectors are read again, and whether sectors between the first and the last
-/// lost one of a run aren't read.
-#[derive(Clone, Copy, Debug, PartialEq, Eq)]
-pub struct RecoveryPlan {
-    pub device: DevId,
-    pub retries: u64,
-    pub no_scrape: bool,
-}
-
 /// The size of the longest piece in bytes.
 pub(crate) const ROOM: usize = 65536;
-
-/// Reads each sector of a mapped device, and reports each longest run of sectors that are lost by one fault. Each readable
-/// sector is written to the same offset of `out`, which has room for all sectors. Lost sectors are left unchanged there. Each
-/// piece that is read is written by one call, in order, and nothing is called after a failed write.
-///
-/// The device is read in three passes: the first one skips ahead after failed reads, as [`skim`](crate::skim) does; the second one
-/// reads each piece that the first one didn't try; the third one reads failed pieces by single sectors.
-///
-/// # Errors
-///
-/// - `NoMemory` if an allocation was refused.
-/// - `Output` if `out` failed.
-pub fn recover<D: BlockDev, O: BlockDev, L: Listing>(
-    alloc: Global,
-    stack: &mut Stack<D>,
-    d: DevId,
-    out: &mut O,
-    listing: &mut L,
-) -> Result<Counts, RecoveryFault>
-    requires device { d.0 < length stack.old.config.devices }
-    requires room { size stack.old.config (mapped d.0) ≤ (O.state out.old).size }
-    requires allowed { IsTrue (O.state out.old).may_write }
-    ensures ok { IfOk result (RecoversBy O.state L.told (retried d.0 0 false) (parties stack.old out.old listing.old) (parties stack.new out.new listing.new)) }
-    ensures err { IfErr result (EndsRecovery O.state L.told (retried d.0 0 false) (parties stack.old out.old listing.old) (parties stack.new out.new listing.new)) }
-    ensures handed { OnOk result (HandsPasses (DeviceDoes O.state O.does) (retried d.0 0 false) (parties stack.old out.old listing.old) (parties stack.new out.new listing.new)) }
-    ensures stopped { IfErr result (HandsPassesPart (DeviceDoes O.state O.does) (retried d.0 0 false) (parties stack.old out.old listing.old) (parties stack.new out.new listing.new)) }
-    ensures called { CopiesAll D.state D.does (DeviceDoes O.state O.does) d.0 stack.old out.old stack.new out.new result }
-{
-    let plan = RecoveryPlan {
-        device: d,
-        retries: 0,
-        no_scrape: false,
-    };
-    recover_with(alloc, stack, plan, out, listing, &mut NoProgress)
-}
-
-/// Recovers a device as `recover` does, and reports progress. After the third pass, sectors that are lost are read again, at most
-/// `retries` times, and only the last pass reports lost sectors.
-///
-/// With `no_scrape` each longest run of failed pieces is read by single sectors from its beginning up to the first lost one, and
-/// from its end backwards up to the last lost one. The sectors between these are reported as a loss `Unscraped`.
-///
-/// # Errors
-///
-/// - `NoMemory` if an allocation was refused.
-/// - `Output` if `out` failed.
-pub fn recover_with<D: BlockDev, O: BlockDev, L: Listing, P: Progress>(
-    alloc: Global,
-    stack: &mut Stack<D>,
-    plan: RecoveryPlan,
-    out: &mut O,
-    listing: &mut L,
-    progress: &mut P,
-) -> Result<Counts, RecoveryFault>
-    requires device { plan.device.0 < length stack.old.config.devices }
-    requires room { size stack.old.config (mapped plan.device.0) ≤ (O.state out.old).size }
-    requires allowed { IsTrue (O.state out.old).may_write }
-    ensures ok { IfOk result (RecoversBy O.state L.told (retried_by plan) (parties stack.old out.old listing.old) (parties stack.new out.new listing.new)) }
-    ensures err { IfErr result (EndsRecovery O.state L.told (retried_by plan) (parties stack.old out.old listing.old) (parties stack.new out.new listing.new)) }
-    ensures handed { OnOk result (HandsPasses (DeviceDoes O.state O.does) (retried_by plan) (parties stack.old out.old listing.old) (parties stack.new out.new listing.new)) }
-    ensures stopped { IfErr result (HandsPassesPart (DeviceDoes O.state O.does) (retried_by plan) (parties stack.old out.old listing.old) (parties stack.new out.new listing.new)) }
-    ensures called { CopiesAll D.state D.does (DeviceDoes O.state O.does) plan.device.0 stack.old out.old stack.new out.new result }
-{
-    let d = plan.device;
-    let no_scrape = plan.no_scrape;
-    let failed = read_large(alloc, stack, d, out, progress)?;
-    let left = read_again(alloc, stack, plan, out, failed, progress)?;
-    let last = DevicePass {
-        device: d,
-        no_scrape,
-        deadline: None,
-    };
-    let rescued = rescue(alloc, stack, last, out, &left, listing, progress)?;
-    Ok(rescued.counts)
-}
 
 /// Recovers a device. Sectors that were read before, by the marks ahead, aren't read again. The map, if one is made, is empty
 /// at first. At its deadline the pass ends; the counts and the map are of the sectors up to there.

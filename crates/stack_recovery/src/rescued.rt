@@ -24,9 +24,14 @@ pub struct Rescued {
     pub map: Map,
 }
 
-/// Recovers a device as the last pass of `recover` does, but neither reads nor writes the sectors that the map marks as read
-/// before. At its deadline the pass ends. The counts and the map are then of the sectors up to there. With `no_scrape` a failed
-/// piece is searched as in `recover_with`.
+/// Reads the sectors of a mapped device that the map doesn't mark as read, by single sectors or those that are lost together, and reports
+/// each longest run of sectors that aren't recovered by one fault. Each readable piece is written to the same offset of `out`, by one call, in
+/// order, and nothing is called after a failed write. Lost sectors are left unchanged there.
+///
+/// With `no_scrape` each longest run of such sectors is read from its beginning up to the first lost one, and from its end backwards up to the
+/// last lost one. The sectors between these are reported as a loss `Unscraped`.
+///
+/// At its deadline the pass ends. The counts and the map are then of the sectors up to there.
 ///
 /// # Errors
 ///

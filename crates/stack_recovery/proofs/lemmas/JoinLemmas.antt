@@ -1,7 +1,7 @@
 -- The lost runs that a pass found, among the bad sectors that it left.
-use Rattle.std.proofs.Common.{◌≡◌, ℕ, zero, suc, ◌+◌, ◌<◌, ◌≤◌, Bool, true, false, List, [], ◌∷◌, ◌++◌, length, drop, get_or, replicate, Option, Some, None, refl, sym, ap, ap₂, ◌∙◌, subst, append-nil, append_assoc, arith}
+use Rattle.std.proofs.Common.{◌≡◌, ℕ, zero, suc, ◌+◌, ◌<◌, ◌≤◌, ◌==◌, Bool, true, false, cond, List, [], ◌∷◌, ◌++◌, length, drop, get_or, replicate, Option, Some, None, refl, sym, ap, ap₂, ◌∙◌, subst, append-nil, append_assoc, inl, inr, arith}
 use Rattle.std.specs.Prelude.{nat_le, nat_lt}
-use Rattle.std.proofs.lemmas.Bool.{cond-false, cond-true}
+use Rattle.std.proofs.lemmas.Bool.{and_parts, cases_lt, cond-false, cond-true, eqb-true}
 use Rattle.std.proofs.lemmas.List.{length-append, length-replicate}
 use Rattle.rescue_map.specs.declared.ahead.Ahead.{Ahead}
 use Rattle.rescue_map.specs.declared.status.Status.{Status}
@@ -9,7 +9,7 @@ use Rattle.rescue_map.specs.Aheads.{marks_ahead, statuses_ahead}
 use Rattle.rescue_map.specs.Maps.{marks}
 use Rattle.rescue_map.specs.Stages.{run_status, statuses}
 use Rattle.rescue_map.proofs.lemmas.RunLemmas.{statuses-length}
-use Rattle.runs.specs.Runs.{runs_of}
+use Rattle.runs.specs.Runs.{follows, run, run_before, runs_of}
 use Rattle.runs.specs.Tallies.{listed}
 use Rattle.runs.proofs.lemmas.RunLemmas.{IsTallied, tallied-all, tallied-had, tallied-lost, tallied-none}
 use Rattle.stack_recovery.specs.declared.lost_run.Loss.{Loss}
@@ -164,3 +164,81 @@ statuses_ahead-length a =
 
 pub ahead-passed : (n : ℕ) (had : Bool) (old new : List Bool) → old ≡ replicate n had ++ new → length old ≡ n + length new
 ahead-passed n had old new is = ap length is ∙ length-append (replicate n had) new ∙ ap (λ (m : ℕ). m + length new) (length-replicate {A = Bool} n had)
+
+-- ---- the state of a sector by the runs of some states
+
+-- the first run begins at a sector or later
+abbrev BeginFrom : ℕ → List LostRun → Type 0
+BeginFrom low [] = Unit {0}
+BeginFrom low (r ∷ more) = low ≤ r.first
+
+begin-before : (s : ℕ) (f : Loss) (rs : List LostRun) → BeginFrom s (run_before is_same_loss (run s 1 f) rs)
+begin-before s f [] = omega arith
+begin-before s f (b ∷ more) = split (follows is_same_loss (run s 1 f) b)
+  where
+    split : (e : Bool) → BeginFrom s (cond e (run s (1 + b.count) f ∷ more) (run s 1 f ∷ b ∷ more))
+    split true = omega arith
+    split false = omega arith
+
+begin-runs : (low s : ℕ) (states : List SectorState) → low ≤ s → BeginFrom low (runs_of is_same_loss s states)
+begin-runs low s [] le = tt
+begin-runs low s (None ∷ more) le = begin-runs low (suc s) more (omega (arith, le))
+begin-runs low s (Some f ∷ more) le = lower (run_before is_same_loss (run s 1 f) (runs_of is_same_loss (suc s) more)) (begin-before s f (runs_of is_same_loss (suc s) more))
+  where
+    lower : (rs : List LostRun) → BeginFrom s rs → BeginFrom low rs
+    lower [] p = tt
+    lower (r ∷ rs) p = omega (arith, le, p)
+
+state-early : (low : ℕ) (rs : List LostRun) (t : ℕ) → BeginFrom low rs → t < low → state_in rs t ≡ None
+state-early low [] t p early = refl
+state-early low (r ∷ more) t p early =
+    cond-true (nat_lt t (r.first + r.count)) (cond (nat_le r.first t) (Some r.kind) None) (state_in more t) (lt-true t (r.first + r.count) (omega (arith, p, early)))
+    ∙ cond-false (nat_le r.first t) (Some r.kind) None (le-false r.first t (omega (arith, p, early)))
+
+-- a sector of the first run, and one after it
+state-within : (r : LostRun) (more : List LostRun) (t : ℕ) → r.first ≤ t → t < r.first + r.count → state_in (r ∷ more) t ≡ Some r.kind
+state-within r more t from to =
+    cond-true (nat_lt t (r.first + r.count)) (cond (nat_le r.first t) (Some r.kind) None) (state_in more t) (lt-true t (r.first + r.count) to)
+    ∙ cond-true (nat_le r.first t) (Some r.kind) None (le-true r.first t from)
+
+state-past : (r : LostRun) (more : List LostRun) (t : ℕ) → r.first + r.count ≤ t → state_in (r ∷ more) t ≡ state_in more t
+state-past r more t past = cond-false (nat_lt t (r.first + r.count)) (cond (nat_le r.first t) (Some r.kind) None) (state_in more t) (lt-false t (r.first + r.count) past)
+
+-- a sector in front of runs
+state-here : (s : ℕ) (f : Loss) (rs : List LostRun) → state_in (run_before is_same_loss (run s 1 f) rs) s ≡ Some f
+state-here s f [] = state-within (run s 1 f) [] s (omega arith) (omega arith)
+state-here s f (b ∷ more) = split (follows is_same_loss (run s 1 f) b)
+  where
+    split : (e : Bool) → state_in (cond e (run s (1 + b.count) f ∷ more) (run s 1 f ∷ b ∷ more)) s ≡ Some f
+    split true = state-within (run s (1 + b.count) f) more s (omega arith) (omega arith)
+    split false = state-within (run s 1 f) (b ∷ more) s (omega arith) (omega arith)
+
+state-later : (s : ℕ) (f : Loss) (rs : List LostRun) (t : ℕ) → s < t → state_in (run_before is_same_loss (run s 1 f) rs) t ≡ state_in rs t
+state-later s f [] t later = state-past (run s 1 f) [] t (omega (arith, later))
+state-later s f (b ∷ more) t later = split (follows is_same_loss (run s 1 f) b) refl
+  where
+    split : (e : Bool) → follows is_same_loss (run s 1 f) b ≡ e → state_in (cond e (run s (1 + b.count) f ∷ more) (run s 1 f ∷ b ∷ more)) t ≡ state_in (b ∷ more) t
+    split true e =
+        let parts = and_parts (b.first == (s + 1)) (is_same_loss f b.kind) e in
+        let at : b.first ≡ s + 1 = eqb-true b.first (s + 1) parts.0 in
+        let same : f ≡ b.kind = is_same-equality.equal f b.kind parts.1 in
+        elim (cases_lt t (b.first + b.count)) [
+          | inl inside ↦
+              state-within (run s (1 + b.count) f) more t (omega (arith, later)) (omega (arith, at, inside)) ∙ ap (λ (x : Loss). Some x) same
+              ∙ sym (state-within b more t (omega (arith, at, later)) inside)
+          | inr past ↦ state-past (run s (1 + b.count) f) more t (omega (arith, at, past)) ∙ sym (state-past b more t past)
+        ]
+    split false e = state-past (run s 1 f) (b ∷ more) t (omega (arith, later))
+
+-- the state of a sector by the longest runs
+pub state-runs : (s : ℕ) (states : List SectorState) (j : ℕ) → state_in (runs_of is_same_loss s states) (s + j) ≡ get_or states j None
+state-runs s [] zero = refl
+state-runs s [] (suc j) = refl
+state-runs s (None ∷ more) zero = state-early (suc s) (runs_of is_same_loss (suc s) more) (s + 0) (begin-runs (suc s) (suc s) more (omega arith)) (omega arith)
+state-runs s (None ∷ more) (suc j) = let next : s + suc j ≡ suc s + j = omega arith in ap (state_in (runs_of is_same_loss (suc s) more)) next ∙ state-runs (suc s) more j
+state-runs s (Some f ∷ more) zero =
+    let here : s + 0 ≡ s = omega arith in
+    ap (state_in (run_before is_same_loss (run s 1 f) (runs_of is_same_loss (suc s) more))) here ∙ state-here s f (runs_of is_same_loss (suc s) more)
+state-runs s (Some f ∷ more) (suc j) =
+    let next : s + suc j ≡ suc s + j = omega arith in
+    state-later s f (runs_of is_same_loss (suc s) more) (s + suc j) (omega arith) ∙ ap (state_in (runs_of is_same_loss (suc s) more)) next ∙ state-runs (suc s) more j

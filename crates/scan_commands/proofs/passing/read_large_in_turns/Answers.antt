@@ -1,4 +1,4 @@
-use Rattle.std.proofs.Common.{◌≡◌, ◌≤◌, ◌<◌, ℕ, None, true, false, length, inl, inr, refl, sym, ap, ◌∙◌, subst}
+use Rattle.std.proofs.Common.{◌≤◌, ◌<◌, ℕ, None, true, length, inl, inr, refl, sym, ap, ◌∙◌, subst, option_map}
 use Rattle.stack_rules.specs.Names.{mapped, size}
 use Rattle.stack_rules.specs.Records.{Configuration}
 use Rattle.stack_recovery.specs.Listings.{listed}
@@ -40,7 +40,7 @@ returns-in_err-swept-clause-err g c =
       (
         listed None true,
         listed None true,
-        ended-turns g.I.Images.relations.replaces (map_path_of c.args.file) scan _ _ Sweep Sweep (λ (p : Phase) (n : ℕ). pass_from p n between (listed None true)) _ _ _ c.in_ok-skimmed.ensures.goes_on.config refl c.in_err-swept.ensures.err,
+        ended-turns g.I.Images.relations.replaces (option_map map_path_of c.args.file) scan _ _ Sweep Sweep (λ (p : Phase) (n : ℕ). pass_from p n between (listed None true)) _ _ _ c.in_ok-skimmed.ensures.goes_on.config refl c.in_err-swept.ensures.err,
       ),
     ))
 
@@ -55,7 +55,7 @@ returns-clause-ok g c =
         listed None true,
         listed None true,
         c.in_ok-swept.swept.skip,
-        whole-turns g.I.Images.relations.replaces (map_path_of c.args.file) scan _ _ Sweep Sweep (λ (p : Phase) (n : ℕ). pass_from p n between (listed None true)) _ _ _ c.in_ok-skimmed.ensures.goes_on.config refl c.in_ok-swept.ensures.ok,
+        whole-turns g.I.Images.relations.replaces (option_map map_path_of c.args.file) scan _ _ Sweep Sweep (λ (p : Phase) (n : ℕ). pass_from p n between (listed None true)) _ _ _ c.in_ok-skimmed.ensures.goes_on.config refl c.in_ok-swept.ensures.ok,
       );
     }
 

@@ -1,15 +1,14 @@
-use Rattle.std.proofs.Common.{◌≡◌, ◌≤◌, ◌<◌, ℕ, suc, IsTrue, None, true, length, inl, inr, refl, sym, ap, ◌∙◌, subst, arith}
+use Rattle.std.proofs.Common.{◌≤◌, ◌<◌, ℕ, None, true, length, refl, sym, ap, ◌∙◌, subst, arith, option_map}
 use Rattle.stack_rules.specs.Names.{mapped, size}
 use Rattle.stack_rules.specs.Records.{Configuration}
 use Rattle.stack_recovery.specs.PassPieces.{Scanned, scanned}
-use Rattle.stack_recovery.specs.Retries.{no_step}
-use Rattle.stack_recovery.proofs.lemmas.StepLemmas.{more-steps}
+use Rattle.scan_commands.specs.Retries.{no_step}
+use Rattle.scan_commands.proofs.RetryTurnLemmas.{ended-turns, more-steps, whole-turns}
 use Rattle.scan_commands.specs.MapFiles.{map_path_of}
 use Rattle.scan_commands.specs.declared.phase.Phase.{Phase}
 use Rattle.stack_recovery.specs.Listings.{listed}
 use Rattle.scan_commands.specs.PassesInTurns.{IsSilentTurns, after_turns, pass_from, phase_after}
 use Rattle.scan_commands.specs.Turns.{kept}
-use Rattle.scan_commands.proofs.RetryTurnLemmas.{ended-turns, whole-turns}
 use Rattle.scan_commands.proofs.TurnLemmas.{err-from}
 use Rattle.scan_commands.proofs.retries.retry_in_turns.Goals as goal
 
@@ -40,7 +39,7 @@ passes-preserved g c =
     let u = c.passes.invariant in
     let d : ℕ = c.args.passing.now.device.0 in
     let scan : Scanned = scanned d c.args.passing.now.no_scrape in
-    let file = map_path_of c.args.file in
+    let file = option_map map_path_of c.args.file in
     let replaces = g.I.Images.relations.replaces in
     let goes = c.in_ok-read.ensures.goes_on in
     let now = after_turns c.passes.images c.passes.passing.stack (g.O.BlockDev.state c.passes.passing.out) c.passes.left in
@@ -65,7 +64,7 @@ returns-in_err-read-clause-err g c =
     let u = c.passes.invariant in
     let d : ℕ = c.args.passing.now.device.0 in
     let scan : Scanned = scanned d c.args.passing.now.no_scrape in
-    let file = map_path_of c.args.file in
+    let file = option_map map_path_of c.args.file in
     let replaces = g.I.Images.relations.replaces in
     let now = after_turns c.passes.images c.passes.passing.stack (g.O.BlockDev.state c.passes.passing.out) c.passes.left in
     err-from c.from_residual.result _ c.in_err-read.field-0.0 c.from_residual.ensures.1 (record {

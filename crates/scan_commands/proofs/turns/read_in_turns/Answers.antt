@@ -1,4 +1,4 @@
-use Rattle.std.proofs.Common.{◌≡◌, ℕ, ◌+◌, ◌≤◌, inl, refl, sym, ap, ◌∙◌, arith}
+use Rattle.std.proofs.Common.{◌≡◌, ℕ, ◌+◌, ◌≤◌, inl, refl, sym, ap, ◌∙◌, arith, option_map, min, ◌-◌}
 use Rattle.stack_rules.specs.Names.{mapped, size}
 use Rattle.stack_rules.specs.Records.{Configuration}
 use Rattle.stack_rules.proofs.lemmas.PassingLemmas.{out_of_memory-more}
@@ -30,7 +30,7 @@ pub returns-in_err-wanted-clause-err : goal.returns-in_err-wanted-clause-err
 returns-in_err-wanted-clause-err g c =
     let u = c.turns.invariant in
     err-from c.from_residual.result _ NoMemory c.from_residual.ensures.1
-    (ends-as g.I.Images.relations.replaces (map_path_of c.args.kept.file) c.args.kept.phase (scanned c.args.d.0 c.args.kept.no_scrape) c.sectors-sectors.result _
+    (ends-as g.I.Images.relations.replaces (option_map map_path_of c.args.kept.file) c.args.kept.phase (scanned c.args.d.0 c.args.kept.no_scrape) c.sectors-sectors.result _
     (λ (n : ℕ). begun_with c.args.kept.phase n c.args.images.now (sides c.args.stack.now (g.O.BlockDev.state c.args.out.now) (g.L.Listing.told c.args.listing.now)) c.args.kept.map) _ c.turns.images
     (sides c.turns.stack (g.O.BlockDev.state c.turns.out) (g.L.Listing.told c.turns.listing)) NoMemory u.all u.turns (refl, refl, out_of_memory-more 1 largest_allocation (omega arith) c.in_err-wanted.ensures.err, inl refl))
 
@@ -38,7 +38,7 @@ pub returns-in_err-ended-clause-err : goal.returns-in_err-ended-clause-err
 returns-in_err-ended-clause-err g c =
     let u = c.turns.invariant in
     err-from c.from_residual-in_err-ended.result _ c.in_err-ended.field-0.0 c.from_residual-in_err-ended.ensures.1
-    (ends-as g.I.Images.relations.replaces (map_path_of c.args.kept.file) c.args.kept.phase (scanned c.args.d.0 c.args.kept.no_scrape) c.sectors-sectors.result _
+    (ends-as g.I.Images.relations.replaces (option_map map_path_of c.args.kept.file) c.args.kept.phase (scanned c.args.d.0 c.args.kept.no_scrape) c.sectors-sectors.result _
     (λ (n : ℕ). begun_with c.args.kept.phase n c.args.images.now (sides c.args.stack.now (g.O.BlockDev.state c.args.out.now) (g.L.Listing.told c.args.listing.now)) c.args.kept.map) _ c.take_turn.new.images
     (sides c.take_turn.new.stack (g.O.BlockDev.state c.take_turn.new.out) (g.L.Listing.told c.take_turn.new.listing)) c.in_err-ended.field-0.0 u.all u.turns c.in_err-ended.ensures.err)
 
@@ -53,7 +53,7 @@ turns-preserved g c =
           next = record {
             first = refl;
             some = omega (arith, c.min-count.ensures, c.turns-test.true, c.turn_len.ensures.some);
-            few = omega (arith, c.min-count.ensures, c.turn_len.ensures.value);
+            count = c.min-count.ensures ∙ ap (λ (n : ℕ). min n (c.sectors-sectors.result - c.turns.at)) c.turn_len.ensures.value;
             end = refl;
             inside = more;
           };
@@ -91,7 +91,7 @@ pub returns-clause-ok : goal.returns-clause-ok
 returns-clause-ok g c =
     let u = c.turns.invariant in
     let end : c.turns.at ≡ c.sectors-sectors.result = omega (arith, u.within, c.turns-test.false) in
-    whole-as g.I.Images.relations.replaces (map_path_of c.args.kept.file) c.args.kept.phase (scanned c.args.d.0 c.args.kept.no_scrape) c.sectors-sectors.result _ c.turns.at
+    whole-as g.I.Images.relations.replaces (option_map map_path_of c.args.kept.file) c.args.kept.phase (scanned c.args.d.0 c.args.kept.no_scrape) c.sectors-sectors.result _ c.turns.at
     (λ (n : ℕ). begun_with c.args.kept.phase n c.args.images.now (sides c.args.stack.now (g.O.BlockDev.state c.args.out.now) (g.L.Listing.told c.args.listing.now)) c.args.kept.map) c.turns.images
     (sides c.turns.stack (g.O.BlockDev.state c.turns.out) (g.L.Listing.told c.turns.listing)) (made_map c.turns.map c.turns.skip) u.all end u.turns
 

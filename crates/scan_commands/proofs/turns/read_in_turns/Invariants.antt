@@ -1,4 +1,4 @@
-use Rattle.std.proofs.Common.{◌≡◌, ◌≤◌, ◌-◌, IsTrue, length}
+use Rattle.std.proofs.Common.{◌≡◌, ◌≤◌, ◌-◌, IsTrue, length, option_map}
 use Rattle.rescue_map.specs.Maps.{marks}
 use Rattle.stack_rules.specs.Names.{mapped, size}
 use Rattle.stack_recovery.specs.PassPieces.{scanned}
@@ -10,7 +10,7 @@ use Rattle.scan_commands.proofs.turns.read_in_turns.Given as goal
 -- the turns so far, and what the next one needs
 abbrev pub invariant-turns : goal.invariant-turns
 invariant-turns g l = record {
-  turns : Turns (kept g.I.Images.relations.replaces (map_path_of l.fn.kept.file) (scanned l.fn.d.0 l.fn.kept.no_scrape) l.sectors) l.fn.kept.phase
+  turns : Turns (kept g.I.Images.relations.replaces (option_map map_path_of l.fn.kept.file) (scanned l.fn.d.0 l.fn.kept.no_scrape) l.sectors) l.fn.kept.phase
       (begun_with l.fn.kept.phase l.sectors l.fn.images (sides l.fn.stack (g.O.BlockDev.state l.fn.out) (g.L.Listing.told l.fn.listing)) l.fn.kept.map)
       (progressed l.images (sides l.stack (g.O.BlockDev.state l.out) (g.L.Listing.told l.listing)) l.map l.at l.skip);
   map : length (marks l.map) ≡ l.sectors;

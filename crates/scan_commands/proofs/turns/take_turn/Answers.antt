@@ -1,10 +1,8 @@
-use Rattle.std.proofs.Common.{arith, ◌≡◌, ◌∙◌, ◌+◌, ◌≤◌, min, inr, ℕ, Bool, true, List, length, replicate, refl, ap, subst, sym}
-use Rattle.std.proofs.lemmas.Bool.{false≢true}
+use Rattle.std.proofs.Common.{arith, ◌≡◌, ◌∙◌, ◌+◌, min, inr, ℕ, Bool, true, List, length, replicate, refl, ap, subst, sym, option_map}
 use Rattle.std.proofs.lemmas.List.{length-replicate}
 use Rattle.block_device.specs.Device.{Device}
 use Rattle.rescue_map.specs.declared.stepping.Step.{Step}
 use Rattle.rescue_map.specs.Maps.{marks}
-use Rattle.rescue_map.specs.MapText.{map_text}
 use Rattle.rescue_map.specs.Steps.{stepped_statuses, untaken_marks}
 use Rattle.rescue_map.proofs.lemmas.SpanLemmas.{spliced-length}
 use Rattle.rescue_map.proofs.lemmas.StatusLemmas.{untaken-length}
@@ -12,12 +10,10 @@ use Rattle.stack_recovery.specs.PassPieces.{scanned}
 use Rattle.stack_recovery.specs.Recoveries.{Sides, sides}
 use Rattle.scan_commands.specs.declared.rescue_fault.PassFault.TheVariants.{NoMemory, Output}
 use Rattle.scan_commands.specs.MapFiles.{map_path_of, recovery_ending}
-use Rattle.scan_commands.specs.Turns.{ReadsSectors, kept, progressed, span_between, step_of}
-use Rattle.scan_commands.proofs.TurnLemmas.{err-from, failed-behind, reads-out, reads-unfailed, stops-reading, stops-unmapped, stops-unwritten}
+use Rattle.scan_commands.specs.Turns.{IsUpTo, ReadsSectors, kept, progressed, span_between, step_of}
+use Rattle.scan_commands.proofs.TurnLemmas.{ends-past, err-from, failed-behind, reads-out, reads-unfailed, stops-reading, stops-unmapped, stops-unwritten, synced-failures}
+use Rattle.stack_rules.specs.Names.{mapped, size}
 use Rattle.scan_commands.proofs.turns.take_turn.Goals as goal
-
-pub read_turn-requires-clause-some : goal.read_turn-requires-clause-some
-read_turn-requires-clause-some g c = omega (arith, c.requires.next.some, c.requires.next.inside, c.requires.all)
 
 pub read_turn-requires-clause-fits : goal.read_turn-requires-clause-fits
 read_turn-requires-clause-fits g c =
@@ -28,29 +24,35 @@ read_turn-requires-clause-fits g c =
     ∙ c.requires.all
 
 pub overflow_sub-count : goal.overflow_sub-count
-overflow_sub-count g c = omega (arith, c.min-at.ensures, c.sectors_of.ensures, c.in_ok-read.ensures.ok.some)
+overflow_sub-count g c =
+    let past = (ends-past (option_map map_path_of c.args.turn.file) c.args.turn.span.first c.args.turn.deadline (length (marks c.in_ok-read.read.map)) (size c.args.stack.now.config (mapped c.args.d.0)) c.requires.until (omega (arith, c.requires.next.some, c.requires.next.inside, c.requires.all)) c.in_ok-read.ensures.ok.ends) in
+    omega (arith, c.min-at.ensures, c.sectors_of.ensures, past.0)
 
 pub stepped-requires-clause-within : goal.stepped-requires-clause-within
-stepped-requires-clause-within g c = omega (arith, c.min-at.ensures, c.sectors_of.ensures, c.in_ok-read.ensures.ok.some)
+stepped-requires-clause-within g c =
+    let past = (ends-past (option_map map_path_of c.args.turn.file) c.args.turn.span.first c.args.turn.deadline (length (marks c.in_ok-read.read.map)) (size c.args.stack.now.config (mapped c.args.d.0)) c.requires.until (omega (arith, c.requires.next.some, c.requires.next.inside, c.requires.all)) c.in_ok-read.ensures.ok.ends) in
+    omega (arith, c.min-at.ensures, c.sectors_of.ensures, past.0)
 
 pub stepped-requires-clause-inside : goal.stepped-requires-clause-inside
-stepped-requires-clause-inside g c = omega (arith, c.min-at.ensures, c.sectors_of.ensures, c.in_ok-read.ensures.ok.some, c.requires.next.inside)
+stepped-requires-clause-inside g c =
+    let past = (ends-past (option_map map_path_of c.args.turn.file) c.args.turn.span.first c.args.turn.deadline (length (marks c.in_ok-read.read.map)) (size c.args.stack.now.config (mapped c.args.d.0)) c.requires.until (omega (arith, c.requires.next.some, c.requires.next.inside, c.requires.all)) c.in_ok-read.ensures.ok.ends) in
+    omega (arith, c.min-at.ensures, c.sectors_of.ensures, past.0, c.requires.next.inside)
 
 pub returns-in_err-read-clause-err : goal.returns-in_err-read-clause-err
 returns-in_err-read-clause-err g c =
-    let k = kept g.I.Images.relations.replaces (map_path_of c.args.turn.file) (scanned c.args.d.0 c.args.turn.no_scrape) c.args.turn.sectors in
+    let k = kept g.I.Images.relations.replaces (option_map map_path_of c.args.turn.file) (scanned c.args.d.0 c.args.turn.no_scrape) c.args.turn.sectors in
     let now = progressed c.args.images.now (sides c.args.stack.now (g.O.BlockDev.state c.args.out.now) (g.L.Listing.told c.args.listing.now)) c.args.turn.map.now c.args.turn.span.first c.args.turn.skip in
     err-from c.from_residual.result _ (recovery_ending c.in_err-read.field-0.0) c.from_residual.ensures.1 (stops-reading k c.args.turn.phase now c.args.turn.span _ _ _ c.in_err-read.field-0.0 c.requires.next c.requires.wanted c.in_err-read.ensures.err)
 
-pub returns-in_err-sync-clause-err : goal.returns-in_err-sync-clause-err
-returns-in_err-sync-clause-err g c =
+pub returns-in_err-sync_kept-clause-err : goal.returns-in_err-sync_kept-clause-err
+returns-in_err-sync_kept-clause-err g c =
     let r = c.in_ok-read.ensures.ok.reads in
     let old : Sides = sides c.args.stack.now (g.O.BlockDev.state c.args.out.now) (g.L.Listing.told c.args.listing.now) in
     let left : Sides = sides c.read_turn.new.stack (g.O.BlockDev.state c.read_turn.new.out) (g.L.Listing.told c.read_turn.new.listing) in
-    err-from c.from_residual-in_err-sync.result _ Output c.from_residual-in_err-sync.ensures.1 (
+    err-from c.from_residual-in_err-sync_kept.result _ Output c.from_residual-in_err-sync_kept.ensures.1 (
       refl,
-      failed-behind (g.O.BlockDev.state c.args.out.now) (g.O.BlockDev.state c.read_turn.new.out) (g.O.BlockDev.state c.sync.new.self) (reads-unfailed c.args.turn.phase _ _ (scanned c.args.d.0 c.args.turn.no_scrape) old _ left r) c.in_err-sync.ensures.err.failed,
-      λ h. false≢true (c.in_err-sync.ensures.sure ((reads-out c.args.turn.phase _ _ (scanned c.args.d.0 c.args.turn.no_scrape) old _ left r).never_fails h)),
+      failed-behind (g.O.BlockDev.state c.args.out.now) (g.O.BlockDev.state c.read_turn.new.out) (g.O.BlockDev.state c.sync_kept.new.out) (reads-unfailed c.args.turn.phase _ _ (scanned c.args.d.0 c.args.turn.no_scrape) old _ left r) c.in_err-sync_kept.ensures.err.unsynced.failed,
+      λ h. c.in_err-sync_kept.ensures.err.sure ((reads-out c.args.turn.phase _ _ (scanned c.args.d.0 c.args.turn.no_scrape) old _ left r).never_fails h),
       record {
         span = c.args.turn.span;
         end = c.args.turn.span.first + c.args.turn.span.count;
@@ -59,7 +61,8 @@ returns-in_err-sync-clause-err g c =
           left = left;
           made = c.in_ok-read.read;
           reads = subst (λ (l : List Bool). ReadsSectors c.args.turn.phase c.args.turn.skip l (scanned c.args.d.0 c.args.turn.no_scrape) old c.in_ok-read.read left) c.requires.wanted r;
-          unsynced = c.in_err-sync.ensures.err;
+          kept = c.in_err-sync_kept.ensures.err.kept;
+          unsynced = c.in_err-sync_kept.ensures.err.unsynced;
           stack = refl;
           printed = refl;
         });
@@ -70,11 +73,11 @@ pub returns-in_err-map-clause-err : goal.returns-in_err-map-clause-err
 returns-in_err-map-clause-err g c =
     let old : Sides = sides c.args.stack.now (g.O.BlockDev.state c.args.out.now) (g.L.Listing.told c.args.listing.now) in
     let left : Sides = sides c.read_turn.new.stack (g.O.BlockDev.state c.read_turn.new.out) (g.L.Listing.told c.read_turn.new.listing) in
-    let k = kept g.I.Images.relations.replaces (map_path_of c.args.turn.file) (scanned c.args.d.0 c.args.turn.no_scrape) c.args.turn.sectors in
+    let k = kept g.I.Images.relations.replaces (option_map map_path_of c.args.turn.file) (scanned c.args.d.0 c.args.turn.no_scrape) c.args.turn.sectors in
     let now = progressed c.args.images.now old c.args.turn.map.now c.args.turn.span.first c.args.turn.skip in
     err-from c.from_residual-in_err-map.result _ NoMemory c.from_residual-in_err-map.ensures.1
-    (stops-unmapped k c.args.turn.phase now (sides c.read_turn.new.stack (g.O.BlockDev.state c.sync.new.self) (g.L.Listing.told c.read_turn.new.listing))
-    (ap (λ (o : Device). o.failures) c.in_ok-sync.ensures.ok ∙ reads-unfailed c.args.turn.phase _ _ (scanned c.args.d.0 c.args.turn.no_scrape) old _ left c.in_ok-read.ensures.ok.reads)
+    (stops-unmapped k c.args.turn.phase now (sides c.read_turn.new.stack (g.O.BlockDev.state c.sync_kept.new.out) (g.L.Listing.told c.read_turn.new.listing))
+    (ap (λ (o : Device). o.failures) c.in_ok-sync_kept.ensures.ok ∙ synced-failures (option_map map_path_of c.args.turn.file) (g.O.BlockDev.state c.read_turn.new.out) ∙ reads-unfailed c.args.turn.phase _ _ (scanned c.args.d.0 c.args.turn.no_scrape) old _ left c.in_ok-read.ensures.ok.reads)
     (record {
       span = c.args.turn.span;
       end = c.args.turn.span.first + c.args.turn.span.count;
@@ -82,19 +85,18 @@ returns-in_err-map-clause-err g c =
       left = left;
       made = c.in_ok-read.read;
       reads = subst (λ (l : List Bool). ReadsSectors c.args.turn.phase c.args.turn.skip l (scanned c.args.d.0 c.args.turn.no_scrape) old c.in_ok-read.read left) c.requires.wanted c.in_ok-read.ensures.ok.reads;
-      on_medium = ap (λ (o : Device). sides c.read_turn.new.stack o (g.L.Listing.told c.read_turn.new.listing)) c.in_ok-sync.ensures.ok;
+      on_medium = ap (λ (o : Device). sides c.read_turn.new.stack o (g.L.Listing.told c.read_turn.new.listing)) c.in_ok-sync_kept.ensures.ok;
     })
     c.in_err-map.ensures.err)
 
-pub returns-in_err-write_map-clause-err : goal.returns-in_err-write_map-clause-err
-returns-in_err-write_map-clause-err g c =
-    let k = kept g.I.Images.relations.replaces (map_path_of c.args.turn.file) (scanned c.args.d.0 c.args.turn.no_scrape) c.args.turn.sectors in
+pub returns-in_err-keep_map-clause-err : goal.returns-in_err-keep_map-clause-err
+returns-in_err-keep_map-clause-err g c =
     let old : Sides = sides c.args.stack.now (g.O.BlockDev.state c.args.out.now) (g.L.Listing.told c.args.listing.now) in
     let left : Sides = sides c.read_turn.new.stack (g.O.BlockDev.state c.read_turn.new.out) (g.L.Listing.told c.read_turn.new.listing) in
     let now = progressed c.args.images.now old c.args.turn.map.now c.args.turn.span.first c.args.turn.skip in
-    err-from c.from_residual-in_err-write_map.result _ c.in_err-write_map.field-0.0 c.from_residual-in_err-write_map.ensures.1
-    (stops-unwritten k c.args.turn.phase now (map_text c.args.turn.file.kind c.args.turn.no_scrape c.in_ok-map.map c.args.turn.file.tail) c.write_map.new.images (sides c.read_turn.new.stack (g.O.BlockDev.state c.sync.new.self) (g.L.Listing.told c.read_turn.new.listing)) c.in_err-write_map.field-0.0
-    (ap (λ (o : Device). o.failures) c.in_ok-sync.ensures.ok ∙ reads-unfailed c.args.turn.phase _ _ (scanned c.args.d.0 c.args.turn.no_scrape) old _ left c.in_ok-read.ensures.ok.reads)
+    err-from c.from_residual-in_err-keep_map.result _ c.in_err-keep_map.field-0.0 c.from_residual-in_err-keep_map.ensures.1
+    (stops-unwritten g.I.Images.relations.replaces (option_map map_path_of c.args.turn.file) (scanned c.args.d.0 c.args.turn.no_scrape) c.args.turn.sectors c.args.turn.phase now c.in_ok-map.map c.keep_map.new.images (sides c.read_turn.new.stack (g.O.BlockDev.state c.sync_kept.new.out) (g.L.Listing.told c.read_turn.new.listing)) c.in_err-keep_map.field-0.0
+    (ap (λ (o : Device). o.failures) c.in_ok-sync_kept.ensures.ok ∙ synced-failures (option_map map_path_of c.args.turn.file) (g.O.BlockDev.state c.read_turn.new.out) ∙ reads-unfailed c.args.turn.phase _ _ (scanned c.args.d.0 c.args.turn.no_scrape) old _ left c.in_ok-read.ensures.ok.reads)
     (record {
       span = c.args.turn.span;
       end = c.args.turn.span.first + c.args.turn.span.count;
@@ -102,14 +104,15 @@ returns-in_err-write_map-clause-err g c =
       left = left;
       made = c.in_ok-read.read;
       reads = subst (λ (l : List Bool). ReadsSectors c.args.turn.phase c.args.turn.skip l (scanned c.args.d.0 c.args.turn.no_scrape) old c.in_ok-read.read left) c.requires.wanted c.in_ok-read.ensures.ok.reads;
-      on_medium = ap (λ (o : Device). sides c.read_turn.new.stack o (g.L.Listing.told c.read_turn.new.listing)) c.in_ok-sync.ensures.ok;
+      on_medium = ap (λ (o : Device). sides c.read_turn.new.stack o (g.L.Listing.told c.read_turn.new.listing)) c.in_ok-sync_kept.ensures.ok;
     })
-    c.in_err-write_map.ensures.err)
+    c.in_err-keep_map.ensures.err)
 
 pub returns-clause-ok : goal.returns-clause-ok
 returns-clause-ok g c =
     let old : Sides = sides c.args.stack.now (g.O.BlockDev.state c.args.out.now) (g.L.Listing.told c.args.listing.now) in
     let left : Sides = sides c.read_turn.new.stack (g.O.BlockDev.state c.read_turn.new.out) (g.L.Listing.told c.read_turn.new.listing) in
+    let past = (ends-past (option_map map_path_of c.args.turn.file) c.args.turn.span.first c.args.turn.deadline (length (marks c.in_ok-read.read.map)) (size c.args.stack.now.config (mapped c.args.d.0)) c.requires.until (omega (arith, c.requires.next.some, c.requires.next.inside, c.requires.all)) c.in_ok-read.ensures.ok.ends) in
     record {
       span = c.args.turn.span;
       end = c.args.turn.span.first + c.args.turn.span.count;
@@ -117,12 +120,12 @@ returns-clause-ok g c =
       left = left;
       made = c.in_ok-read.read;
       reads = subst (λ (l : List Bool). ReadsSectors c.args.turn.phase c.args.turn.skip l (scanned c.args.d.0 c.args.turn.no_scrape) old c.in_ok-read.read left) c.requires.wanted c.in_ok-read.ensures.ok.reads;
-      on_medium = ap (λ (o : Device). sides c.read_turn.new.stack o (g.L.Listing.told c.read_turn.new.listing)) c.in_ok-sync.ensures.ok;
-      some = omega (arith, c.min-at.ensures, c.sectors_of.ensures, c.in_ok-read.ensures.ok.some, c.requires.next.some);
-      few = subst (λ (n : ℕ). length (marks c.in_ok-read.read.map) ≤ n) (sym c.requires.all) c.in_ok-read.ensures.ok.few;
+      on_medium = ap (λ (o : Device). sides c.read_turn.new.stack o (g.L.Listing.told c.read_turn.new.listing)) c.in_ok-sync_kept.ensures.ok;
+      some = omega (arith, c.min-at.ensures, c.sectors_of.ensures, past.0, c.requires.next.some);
+      few = subst (λ (n : ℕ). IsUpTo (option_map map_path_of c.args.turn.file) n (length (marks c.in_ok-read.read.map))) (sym c.requires.all) past.1;
       here = c.min-at.ensures ∙ ap (min (c.args.turn.span.first + c.args.turn.span.count)) c.sectors_of.ensures;
       whole = c.in_ok-map.ensures.sectors ∙ sym c.requires.map;
       map = c.in_ok-map.ensures.ok ∙ ap (λ (s : Step). stepped_statuses s (span_between c.args.turn.span.first c.min-at.result) c.args.turn.map.now c.in_ok-read.read.map) c.step_of-step.ensures;
       skip = refl;
-      written = c.in_ok-write_map.ensures.ok;
+      written = c.in_ok-keep_map.ensures.ok;
     }

@@ -1,4 +1,4 @@
-use Rattle.stack_recovery.proofs.MeantLemmas.{surveys-meant}
+use Rattle.stack_recovery.proofs.lemmas.MeantLemmas.{surveys-meant}
 use Rattle.stack_recovery.proofs.laws.rescues_are_meant.Goals as goal
 
 pub returns : goal.returns
