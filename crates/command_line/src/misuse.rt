@@ -81,8 +81,6 @@ pub enum Cause {
     WithoutFec,
     /// It needs `--stack`, `--root` or `--pin`.
     WithoutStack,
-    /// It needs `--root` or `--pin`.
-    WithoutRoot,
 }
 
 /// An option, the name of a positional argument or the argument itself, and what is wrong with it.

@@ -48,6 +48,5 @@ pub fn cause_text(cause: Cause) -> &'static str
         Cause::WithoutDisk => "only with --disk",
         Cause::WithoutFec => "only with --fec",
         Cause::WithoutStack => "only with --stack, --root or --pin",
-        Cause::WithoutRoot => "only with --root or --pin",
     }
 }

@@ -100,7 +100,7 @@ fn partition_named<'a>(
 }
 
 fn not_found<'a>(word: &'a str) -> PartitionsFault<'a>
-    ensures { IsNotFound word.now result.entry }
+    ensures { IsNotFound word.now result }
 {
     PartitionsFault::Open(UnopenedFile {
         fault: OpenFault::NotFound,

@@ -223,7 +223,7 @@ fn root_text<'a>(
 
 // The parity in the line of `root`.
 fn line_parity(parity: &Option<ImageParity>) -> Option<LineParity<'static>>
-    ensures { parity_of result.entry ≡ option_map line_parity parity.now }
+    ensures { parity_of result ≡ option_map line_parity parity.now }
 {
     match parity {
         Some(parity) => Some(LineParity {

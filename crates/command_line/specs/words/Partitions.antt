@@ -6,7 +6,7 @@ use Rattle.command_line.specs.Misuses.{Reading, refuse_if, when}
 use Rattle.command_line.specs.OptionGroups.{is_parity_alone, is_writable_table}
 use Rattle.command_line.specs.Positional.{no_more, positional}
 use Rattle.command_line.specs.Values.{FormRecord, form_of, form_record, sector_size_of}
-use Rattle.command_line.specs.declared.misuse.Cause.TheVariants.{WithoutRoot, WithoutStack}
+use Rattle.command_line.specs.declared.misuse.Cause.TheVariants.{Missing, WithoutStack}
 use Rattle.command_line.specs.declared.words.partitions.PartitionsWords.{PartitionsWords}
 
 pub record PartitionsRecord : Type 0 where
@@ -23,7 +23,7 @@ partitions_said texts words =
     when (sector_size_of texts.sector_size) (λ sector_size.
     when (refuse_if (is_writable_table texts) (codes "--writable") WithoutStack) (λ a.
     when (fec_choice_of texts.fec texts.fec_roots) (λ fec.
-    when (refuse_if (is_parity_alone texts) (codes "--fec") WithoutRoot) (λ b.
+    when (refuse_if (is_parity_alone texts) (codes "--root") Missing) (λ b.
     when (form_of texts.pin texts.root texts.stack texts.json) (λ form.
     Ok (record {
       image = image.0;

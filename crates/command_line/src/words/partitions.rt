@@ -46,7 +46,7 @@ pub fn partitions_of<'a>(
     refuse_if(is_table, "--writable", Cause::WithoutStack)?;
     let fec = fec_choice_of(options.fec, options.fec_roots)?;
     let is_alone = is_parity_alone(options);
-    refuse_if(is_alone, "--fec", Cause::WithoutRoot)?;
+    refuse_if(is_alone, "--root", Cause::Missing)?;
     match form_of(options.pin, options.root, options.stack, options.json) {
         Ok(form) => Ok(Invocation::Partitions(PartitionsWords {
             image,
