@@ -7,7 +7,7 @@ ghost use Rattle.verity_format.specs.Line.{parity_of};
 ghost use Rattle.verity_format.specs.Verifying.{IsReadFrom};
 ghost use Rattle.partition_commands.specs.Commands.{EndsNoted, NotesImage};
 ghost use Rattle.partition_commands.specs.Loads.{EndsQuiet, IsRefusedRoom};
-ghost use Rattle.partition_commands.specs.RootCommands.{FailsToFindPinned, FailsToFindRoot, IsFitting, IsPairEnd, IsPartSuperEnd, IsRootTextEnd, NotesPinned, PrintsPinnedOf, PrintsRootOf, SaysRoot, unpinned_refusal};
+ghost use Rattle.partition_commands.specs.RootCommands.{FailsToFindPinned, FailsToFindRoot, IsFitting, IsPairEnd, IsPartSuperEnd, IsRootTextEnd, NotesPinned, PrintsPinnedOf, PrintsRootOf, SaysRoot, image_plan, unpinned_refusal};
 ghost use Rattle.partition_commands.specs.RootStacks.{image_room, image_stack_text, is_unfit, line_parity};
 ghost use Rattle.stack_files.specs.Warnings.{notes_of};
 
@@ -109,7 +109,7 @@ fn print_root_stack<'a, D: BlockDev + Drop, W: Write, E: Write>(
     errors: &mut Counted<E>,
 ) -> Result<(), PartitionsFault<'a>>
     ensures ok { OnOk result (SaysRoot D.state device W.contents writer.old writer.new plan.now trusted.now (notes_of E.contents errors.old errors.new)) }
-    ensures err { IfErr result (IsRootTextEnd D.state plan.now trusted.now writer.new.failed device) }
+    ensures err { IfErr result (IsRootTextEnd D.state (image_plan plan.now) trusted.now writer.new.failed device) }
     ensures noted { IfErr result (EndsNoted (D.state device) plan.now.stack.size (notes_of E.contents errors.old errors.new)) }
     ensures quiet { IfErr result (EndsQuiet W.contents writer.old writer.new) }
 {
