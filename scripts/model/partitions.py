@@ -269,14 +269,14 @@ def is_sound(image, table):
 
 
 def only_named(table, word):
-    """The partition of that number, UUID or label; None unless exactly one is."""
+    """The partition of that number, UUID or label; None unless exactly one is. No word with a slash is a label."""
     wanted = number(word, 2**32)
     if wanted:
         found = [it for it in table.partitions if it.number == wanted]
     elif UUID_FORM.fullmatch(word):
         found = [it for it in table.partitions if it.uuid == UUID(word.decode())]
     else:
-        found = [it for it in table.partitions if it.label.encode() == word]
+        found = [it for it in table.partitions if it.label.encode() == word and word and b"/" not in word]
     return found[0] if len(found) == 1 else None
 
 

@@ -58,8 +58,8 @@ returns-in_err-parity-clause-err g c =
     let lacks = rw c.sectors-sectors.ensures.size at c.in_err-parity.ensures.err in
     err-from c.from_residual-in_err-parity.result _ c.in_err-parity.field-0.0 c.from_residual-in_err-parity.ensures.1 (inr (record { pair = pair; lacks = lacks }))
 
-pub parity_in-parity-requires : goal.parity_in-parity-requires
-parity_in-parity-requires g c = omega (arith, c.in_ok-superblock.ensures.ok.inside, c.sectors-sectors.ensures.size, c.sectors-sectors.ensures.small)
+pub parity_in-requires : goal.parity_in-requires
+parity_in-requires g c = omega (arith, c.in_ok-superblock.ensures.ok.inside, c.sectors-sectors.ensures.size, c.sectors-sectors.ensures.small)
 
 pub returns-in_err-text-clause-err : goal.returns-in_err-text-clause-err
 returns-in_err-text-clause-err g c =
