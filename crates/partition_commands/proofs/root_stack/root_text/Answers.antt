@@ -1,4 +1,4 @@
-use Rattle.std.proofs.Common.{◌≡◌, ◌∙◌, ℕ, List, [], Option, false, codes, ap, length, refl, subst, arith}
+use Rattle.std.proofs.Common.{◌≡◌, ◌∙◌, ℕ, [], Option, false, codes, ap, length, refl, subst, arith}
 use Rattle.allocation.specs.Refusal.{IsOutOfMemory}
 use Rattle.dm_table.specs.declared.parity.Parity.{Parity}
 use Rattle.image_files.specs.Partitions.{part_of}
