@@ -1,6 +1,6 @@
 #!/usr/bin/env bash
-# partition_images.sh: makes the files of the rows partition_stacks, partition_roots, partition_copies, partition_bindings and
-# hash_offsets anew.
+# partition_images.sh: makes the files of the rows partition_stacks, partition_roots, partition_parity, partition_copies,
+# partition_bindings and hash_offsets anew.
 #
 # Small disks with a GUID partition table, as sgdisk, sfdisk and fdisk make them, one with a verity image in two partitions, as
 # systemd-repart lays it out: the UUID of the data partition is the first half of the root digest, that of the verity
@@ -44,6 +44,42 @@ dd if=data of=root.img bs=512 seek=40 conv=notrunc status=none
 dd if=hash of=root.img bs=512 seek=46 conv=notrunc status=none
 keep partition_roots root.img
 cp "$top/tests/rows/partition_roots/files/root.img.hex" "$top/examples/system.img.hex"
+
+# The same image with parity of 2 and of 24 bytes in a codeword, over the hash partition to its end; room for one sector less of each.
+truncate -s $((10 * 512)) hash
+for roots in 2 24; do
+    veritysetup format --data-block-size 512 --hash-block-size 512 --salt "$salt" --uuid "$identifier" --fec-device "parity$roots" --fec-roots $roots data hash > /dev/null
+done
+linux=0fc63daf-8483-4772-8e79-3d69d8477de4
+truncate -s $((180 * 512)) parity.img
+sgdisk -a 1 -o -U "$identifier" \
+    -n 1:40:45 -t 1:4f68bce3-e8cd-4db1-96e7-fbcaf984b709 -u 1:"$(uuid "${root:0:32}")" -c 1:data \
+    -n 2:46:55 -t 2:2c7357ed-ebd2-46d9-aec1-23d437ec2bf5 -u 2:"$(uuid "${root:32}")" -c 2:hash \
+    -n 3:56:57 -t 3:$linux -u 3:00000000-0000-0000-0000-000000000003 -c 3:parity \
+    -n 4:58:81 -t 4:$linux -u 4:00000000-0000-0000-0000-000000000004 -c 4:twice \
+    -n 5:82:82 -t 5:$linux -u 5:00000000-0000-0000-0000-000000000005 -c 5:twice \
+    -n 6:83:105 -t 6:$linux -u 6:00000000-0000-0000-0000-000000000006 -c 6:short \
+    -n 7:140:141 -t 7:$linux -u 7:00000000-0000-0000-0000-000000000007 -c 7:last \
+    parity.img > /dev/null
+dd if=data of=parity.img bs=512 seek=40 conv=notrunc status=none
+dd if=hash of=parity.img bs=512 seek=46 conv=notrunc status=none
+dd if=parity2 of=parity.img bs=512 seek=56 conv=notrunc status=none
+dd if=parity24 of=parity.img bs=512 seek=58 conv=notrunc status=none
+keep partition_parity parity.img
+echo "$root" > "$top/tests/rows/partition_parity/files/root"
+
+# Data blocks of 1,024 bytes, and hash blocks of 512.
+sizes=$(veritysetup format --data-block-size 1024 --hash-block-size 512 --salt - --uuid "$identifier" data other | sed -n 's/^Root hash:[[:space:]]*//p')
+truncate -s $((100 * 512)) sizes.img
+sgdisk -a 1 -o -U "$identifier" \
+    -n 1:40:45 -t 1:4f68bce3-e8cd-4db1-96e7-fbcaf984b709 -u 1:"$(uuid "${sizes:0:32}")" -c 1:data \
+    -n 2:46:55 -t 2:2c7357ed-ebd2-46d9-aec1-23d437ec2bf5 -u 2:"$(uuid "${sizes:32}")" -c 2:hash \
+    -n 3:56:57 -t 3:$linux -u 3:00000000-0000-0000-0000-000000000003 -c 3:parity \
+    sizes.img > /dev/null
+dd if=data of=sizes.img bs=512 seek=40 conv=notrunc status=none
+dd if=other of=sizes.img bs=512 seek=46 conv=notrunc status=none
+keep partition_parity sizes.img
+echo "$sizes" > "$top/tests/rows/partition_parity/files/sizes"
 
 # Labels: one that is a name, one that occurs twice, one with a space, none, and the name of another partition by its number.
 truncate -s $((512 * 512)) labels.img

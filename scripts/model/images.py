@@ -7,7 +7,7 @@ from differences import Stored, compared, longest_runs, run_lines, unlike
 from files import WHOLE, Stop, not_opened
 from partitions import lines_of, root_lines, stack_lines, table_facts, table_of, warning_lines
 from pins import Pin, read_pin
-from protection import check_aligned, check_one_size, check_parity_of, compared_parity, found, measured, protect
+from protection import check_aligned, check_one_size, check_parity_of, compared_parity, found, measured, parity_words, protect
 from replies import Json, ending_object
 from stack import SECTOR
 from tables import digits_of
@@ -184,16 +184,7 @@ def run_table(options, words, files, _given, _features):
         check_aligned(first, made.hash_block)
     line = table_line(made, root, *names, first // (made.hash_block // SECTOR) + ahead)
     head = options[b"name"] + b",,,ro," if b"name" in options else b""
-    return [head + line + (parity_words(made, image, ahead, fec) if fec else b"")], DONE
-
-
-def parity_words(made, image, ahead, fec):
-    """The options of a table line for parity over the data and the hash image, from the tree on to its end."""
-    check_one_size(made.data_block, made.hash_block)
-    whole = len(image) // made.hash_block
-    if whole < ahead + sum(Tree(made.data_block, made.hash_block, made.blocks).levels):
-        raise Stop(b"refused 9 TooSmall")
-    return b" 8 use_fec_from_device %s fec_blocks %d fec_start 0 fec_roots %d" % (fec[0], made.blocks + whole - ahead, fec[1])
+    return [head + line + (parity_words(made, image, ahead, *fec) if fec else b"")], DONE
 
 
 def run_diff(options, words, files, _given, _features):
@@ -234,7 +225,7 @@ def difference_facts(kinds, most):
 
 
 def run_partitions(options, words, files, _given, _features):
-    path, size, root = read_partitions(options, words)
+    path, size, root, fec = read_partitions(options, words)
     pin = None
     if b"pin" in options:
         pin = read_pin(files, options[b"pin"])
@@ -243,7 +234,7 @@ def run_partitions(options, words, files, _given, _features):
     table = table_of(image, size)
     files.warnings = warning_lines(image, table)
     if root is not None:
-        return root_lines(image, table, root, pin, b"writable" in options), DONE
+        return root_lines(image, table, root, pin, b"writable" in options, fec), DONE
     if b"stack" in options:
         return stack_lines(image, table, b"writable" in options), DONE
     if b"json" in options:

@@ -7,7 +7,9 @@ from dataclasses import dataclass
 from uuid import UUID
 
 from configuration import MOST_DEVICES
-from files import Stop
+from files import Stop, not_opened
+from parity import covered
+from protection import check_parity, parity_words
 from stack import SECTOR
 from tables import is_mapped_name, number
 from verity import check_sizes, read_superblock, table_line
@@ -266,21 +268,26 @@ def is_sound(image, table):
     return table.copies.startswith(("both", "primary")) and not master_record(image)
 
 
-def part_named(image, word):
-    """The part, in sectors of 512 bytes, that the partition of that number, UUID or label is; None unless exactly one is."""
-    try:
-        table = table_of(image, SECTOR)
-    except Stop:
-        return None
+def only_named(table, word):
+    """The partition of that number, UUID or label; None unless exactly one is. No word with a slash is a label."""
     wanted = number(word, 2**32)
     if wanted:
         found = [it for it in table.partitions if it.number == wanted]
     elif UUID_FORM.fullmatch(word):
         found = [it for it in table.partitions if it.uuid == UUID(word.decode())]
     else:
-        found = [it for it in table.partitions if it.label.encode() == word]
-    unit = table.size // SECTOR
-    return (found[0].first * unit, found[0].count * unit) if len(found) == 1 else None
+        found = [it for it in table.partitions if it.label.encode() == word and word and b"/" not in word]
+    return found[0] if len(found) == 1 else None
+
+
+def part_named(image, word):
+    """The part, in sectors of 512 bytes, that the partition of that number, UUID or label is; None unless exactly one is."""
+    try:
+        table = table_of(image, SECTOR)
+    except Stop:
+        return None
+    found, unit = only_named(table, word), table.size // SECTOR
+    return (found.first * unit, found.count * unit) if found else None
 
 
 def warning_lines(image, table):
@@ -357,8 +364,18 @@ def signature_lines(image, table, root):
     return []
 
 
-def root_lines(image, table, root, pin, is_writable):
-    """The stack of the two partitions whose own UUIDs are the halves of the root digest; the superblock is the pin's, if there is one."""
+def parity_part(image, table, word):
+    """The partition of the parity, which ends on the disk."""
+    found = only_named(table, word)
+    if found is None:
+        raise not_opened("NotFound", word)
+    check_end(image, found, table.size)
+    return found
+
+
+def root_lines(image, table, root, pin, is_writable, fec):
+    """The stack of the two partitions whose own UUIDs are the halves of the root digest; the superblock is the pin's, if there is one.
+    With parity its partition, and how many bytes of it a codeword has."""
     size = table.size
     data = the_one(table.partitions, root[:16], ((13, b"NoDataPartition"), (14, b"TwoDataPartitions")))
     tree = the_one(table.partitions, root[16:], ((15, b"NoVerityPartition"), (16, b"TwoVerityPartitions")))
@@ -368,6 +385,13 @@ def root_lines(image, table, root, pin, is_writable):
     superblock = read_superblock(octets[1])
     if pin is not None:
         pin.check(superblock)
-    check_sizes(superblock.tree(), *octets)
+    shape = superblock.tree()
+    check_sizes(shape, *octets)
     line = table_line(superblock, root, b"/dev/mapper/data", b"/dev/mapper/hash")
-    return [linear(b"data", data, size, is_writable), linear(b"hash", tree, size, False), b"root,,,ro,%s;" % line, *signature_lines(image, table, root)]
+    lines = [linear(b"data", data, size, is_writable), linear(b"hash", tree, size, False)]
+    if fec:
+        part = parity_part(image, table, fec[0])
+        line += parity_words(superblock, octets[1], 1, b"/dev/mapper/parity", fec[1])
+        check_parity(shape, covered(*octets, shape.data_block, shape.blocks, 1), image[part.first * size:(part.last + 1) * size], fec[1])
+        lines.append(linear(b"parity", part, size, False))
+    return [*lines, b"root,,,ro,%s;" % line, *signature_lines(image, table, root)]

@@ -3,7 +3,7 @@
 from dataclasses import dataclass
 
 from files import OUTSIDE, WHOLE, Stop, not_opened
-from partitions import is_sound, table_of
+from partitions import is_sound, only_named, table_of
 from session import Usage
 from stack import SECTOR
 from tables import number
@@ -64,19 +64,13 @@ def partition_part(files, path, word, writable):
         table = table_of(bytes(node), SECTOR)
     except Stop:
         raise not_opened("NotFound", path) from None
-    value, uuid = number(word, 2**32), uuid_in(word)
-    if value:
-        found = [it for it in table.partitions if it.number == value]
-    elif uuid is not None:
-        found = [it for it in table.partitions if it.uuid.bytes == uuid]
-    else:
-        found = [it for it in table.partitions if it.label.encode() == word]
-    if len(found) != 1:
+    found = only_named(table, word)
+    if found is None:
         raise not_opened("NotFound", path)
     if writable and not is_sound(bytes(node), table):
         raise not_opened("NotAllowed", path)
     unit = table.size // SECTOR
-    return found[0].first * unit, found[0].count * unit
+    return found.first * unit, found.count * unit
 
 
 def open_place(files, text, writable, is_written=False):

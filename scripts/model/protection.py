@@ -3,7 +3,7 @@
 from files import REFUSED, Stop, not_opened
 from parity import WORD, covered, parity_of, sectors_of_parity
 from stack import SECTOR
-from verity import bare_tree, has_shape, read_superblock
+from verity import Tree, bare_tree, has_shape, read_superblock
 
 FAULT = 3
 
@@ -25,6 +25,15 @@ def check_aligned(first, hash_block, rest=b""):
 def check_one_size(data_block, hash_block):
     if data_block != hash_block:
         raise Stop(b"refused 47 OtherBlockSizes")
+
+
+def parity_words(made, image, ahead, device, roots):
+    """The options of a table line for parity over the data and the hash image, from the tree on to its end."""
+    check_one_size(made.data_block, made.hash_block)
+    whole = len(image) // made.hash_block
+    if whole < ahead + sum(Tree(made.data_block, made.hash_block, made.blocks).levels):
+        raise Stop(b"refused 9 TooSmall")
+    return b" 8 use_fec_from_device %s fec_blocks %d fec_start 0 fec_roots %d" % (device, made.blocks + whole - ahead, roots)
 
 
 def laid_out(files, paths, fec, first, writable, said=None):

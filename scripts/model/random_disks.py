@@ -158,4 +158,8 @@ class Disks(Trees):
             words.append(b"--stack")
         if self.chance(0.2 if form in (1, 2) else 0.03):
             words.append(b"--writable")
+        if self.has("forms", "fec") and self.chance(0.4 if form == 2 else 0.03):
+            words += [b"--fec", self.pick([b"1", b"2", b"3", b"3", b"4", b"0", b"a", b"x/y", b"", OTHER.encode()])]
+        if self.has("forms", "fec") and self.chance(0.1 if b"--fec" in words else 0.01):
+            words.append(b"--fec-roots=%d" % self.pick([1, 2, 3, 24, 25]))
         return Run([b"partitions"] + words + [self.pick([b"disk"] * 15 + [b"missing", b"."])])

@@ -26,7 +26,7 @@ OPTIONS = {
     "scan": (b"cache", b"map", b"retries", b"no-scrape", b"progress", b"json", b"chart", b"disk"),
     "copy": (b"cache", b"map", b"retries", b"no-scrape", b"differing", b"progress", b"disk", b"grow"),
     "cat": (b"cache", b"first", b"count", b"progress"), "store": (b"cache", b"first", b"progress"),
-    "partitions": (b"sector-size", b"stack", b"root", b"json", b"pin", b"writable"),
+    "partitions": (b"sector-size", b"stack", b"root", b"json", b"pin", b"writable", b"fec", b"fec-roots"),
     "diff": (*TREE, b"no-superblock", b"all", b"runs", b"json", b"old-hash-offset", b"hash-offset", b"old-root-hash-file",
              b"root-hash-file", b"old-pin", b"pin"),
     "manual": (), "version": (),
@@ -345,7 +345,10 @@ def read_partitions(options, words):
     if size not in (512, 4096):
         raise Usage
     root = the_root(options[b"root"]) if b"root" in options else None
-    return *exactly(words, 1), size, root
+    fec = read_fec(options)
+    if fec and not {b"pin", b"root"} & {*options}:
+        raise Usage
+    return *exactly(words, 1), size, root, fec
 
 
 def read_tree(options, words, pin, file):

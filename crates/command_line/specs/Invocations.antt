@@ -105,7 +105,6 @@ image_said name texts words =
     else if bytes_eq name (codes "verify") then said_as verify (verify_said texts words)
     else if bytes_eq name (codes "dump") then said_as dump (dump_said texts words)
     else if bytes_eq name (codes "table") then said_as table (table_said texts words)
-    else if bytes_eq name (codes "partitions") then said_as partitions (partitions_said texts words)
     else if bytes_eq name (codes "diff") then said_as diff (diff_said texts words)
     else if bytes_eq name (codes "manual") then said_as manual (manual_said words)
     else if bytes_eq name (codes "version") then version_said words
@@ -143,6 +142,7 @@ invocation_said name texts words =
     when (root_file_allowed name texts) (λ b.
     if bytes_eq name (codes "repair") then said_as repair (repair_said texts words)
     else if bytes_eq name (codes "assemble") then said_as assemble (assemble_said texts words)
+    else if bytes_eq name (codes "partitions") then said_as partitions (partitions_said texts words)
     else if has_fec_value texts then fec_said name texts words
     else if texts.no_superblock then tree_said name texts words else command_said name texts words))
 

@@ -12,6 +12,10 @@ has_fec_value texts = is_some texts.fec || is_some texts.fec_roots
 unfoldable pub is_writable_table : OptionTexts → Bool
 is_writable_table texts = texts.writable && (not texts.stack && (not (is_some texts.root) && not (is_some texts.pin)))
 
+-- parity is given, and yet no stack of a verity image is to be printed
+unfoldable pub is_parity_alone : OptionTexts → Bool
+is_parity_alone texts = is_some texts.fec && (not (is_some texts.root) && not (is_some texts.pin))
+
 -- no option of the tree is given whose value the superblock holds
 unfoldable pub in_superblock : OptionTexts → Reading (Unit {0})
 in_superblock texts =

@@ -76,6 +76,8 @@ fn said_by<'a>(
         repair_of(alloc, options, words)
     } else if name == b"assemble".as_slice() {
         assemble_of(options, words)
+    } else if name == b"partitions".as_slice() {
+        partitions_of(options, words)
     } else if has_fec_value(options) {
         fec_of(name, options, words)
     } else if options.no_superblock {
@@ -237,8 +239,6 @@ fn image_of<'a>(
         dump_of(options, words)
     } else if name == b"table".as_slice() {
         table_of(options, words)
-    } else if name == b"partitions".as_slice() {
-        partitions_of(options, words)
     } else if name == b"diff".as_slice() {
         diff_of(options, words)
     } else if name == b"manual".as_slice() {

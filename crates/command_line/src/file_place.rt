@@ -62,7 +62,7 @@ fn partition_place(text: &str) -> Option<FilePlace<'_>>
 }
 
 /// Returns the partition that a word names: a number from 1 to 2^32 - 1, else a UUID of 36 characters, else a label.
-pub(crate) fn named_partition(word: &str) -> Option<NamedPartition<'_>>
+pub fn named_partition(word: &str) -> Option<NamedPartition<'_>>
     ensures { option_map named_partition_record result ≡ named_partition word.now }
 {
     match partition_number(word) {

@@ -28,7 +28,7 @@ pub use bindings::{Backing, Binding};
 pub use command_words::{invocation_of, is_option};
 pub use fault::WordsFault;
 pub use fec_file::{FecDevice, FecFile};
-pub use file_place::{FilePlace, NamedPart, NamedPartition, file_place_of};
+pub use file_place::{FilePlace, NamedPart, NamedPartition, file_place_of, named_partition};
 pub use image_copies::ImageCopy;
 pub use image_options::{ImageOptions, identifier_of, options_of};
 pub use invocation::{Invocation, Sectors, ServedDevice, Transfer, bindings_in, with_bindings};

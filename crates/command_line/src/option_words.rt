@@ -1,7 +1,7 @@
 //! The options of a command line, as words.
 ghost use Rattle.std.specs.Prelude.{◌≡◌};
 ghost use Rattle.command_line.specs.FormatOptions.{option_texts};
-ghost use Rattle.command_line.specs.OptionGroups.{has_fec_value, in_superblock, is_writable_table, table_stated, tree_given, tree_stated};
+ghost use Rattle.command_line.specs.OptionGroups.{has_fec_value, in_superblock, is_parity_alone, is_writable_table, table_stated, tree_given, tree_stated};
 ghost use Rattle.command_line.specs.Misuses.{ReadsValue};
 
 use crate::misuse::{Cause, Misuse, refuse_if};
@@ -67,6 +67,14 @@ pub fn is_writable_table(options: &OptionWords<'_>) -> bool
     ensures { result ≡ is_writable_table (option_texts options.now) }
 {
     options.writable && !options.stack && options.root.is_none() && options.pin.is_none()
+}
+
+/// Returns whether `--fec` is given without an option that prints the stack of a verity image: `--root` or `--pin`.
+#[tactic(auto, unfolding(crate::specs::OptionGroups::is_parity_alone))]
+pub fn is_parity_alone(options: &OptionWords<'_>) -> bool
+    ensures { result ≡ is_parity_alone (option_texts options.now) }
+{
+    options.fec.is_some() && options.root.is_none() && options.pin.is_none()
 }
 
 /// Refuses the options of the tree whose values the superblock holds.

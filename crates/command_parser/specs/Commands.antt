@@ -103,6 +103,6 @@ stack_commands more =
 unfoldable pub commands : List CommandText
 commands =
     image_commands (stack_commands
-    (command (codes "partitions") (value_option (codes "sector-size") ∷ flag (codes "stack") ∷ value_option (codes "root") ∷ json ∷ pin ∷ flag (codes "writable") ∷ [])
+    (command (codes "partitions") (value_option (codes "sector-size") ∷ flag (codes "stack") ∷ value_option (codes "root") ∷ json ∷ pin ∷ flag (codes "writable") ∷ fec_options [])
     ∷ command (codes "diff") (tree_options (bare_option ∷ flag (codes "all") ∷ value_option (codes "runs") ∷ json ∷ value_option (codes "old-hash-offset") ∷ offset ∷ root_options []))
     ∷ command (codes "manual") [] ∷ command (codes "version") [] ∷ []))

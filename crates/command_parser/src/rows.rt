@@ -156,7 +156,17 @@ pub static COMMANDS: [CommandRow; 21] = [
     },
     CommandRow {
         name: "partitions",
-        options: &[QUIET, SECTOR_SIZE, STACK, ROOT, JSON, PIN, WRITABLE],
+        options: &[
+            QUIET,
+            SECTOR_SIZE,
+            STACK,
+            ROOT,
+            JSON,
+            PIN,
+            WRITABLE,
+            FEC,
+            FEC_ROOTS,
+        ],
     },
     CommandRow {
         name: "diff",

@@ -14,3 +14,4 @@ pub mod Sizes
 pub mod Formatting
 pub mod Commands
 pub mod Tables
+pub mod Coverings

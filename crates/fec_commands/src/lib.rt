@@ -1,6 +1,7 @@
 //! The commands on images with parity: `format --fec`, `verify --fec` and `table --fec`.
 #![tactic(auto)]
 
+mod covering;
 mod fault;
 mod fault_text;
 mod finding;
@@ -17,6 +18,7 @@ mod table;
 mod verifying;
 mod wanted;
 
+pub use covering::covered_blocks;
 pub use fault::FecFault;
 pub use fault_text::{fec_status, say_fec_fault};
 pub use formatting::invoke_format_fec;

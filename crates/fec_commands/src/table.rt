@@ -101,8 +101,8 @@ fn lay_line<'a, H: BlockDev>(
     }
 }
 
-// Returns whether all of the tree's blocks are covered, which lie on the hash image then.
-fn covers_tree(layout: &Layout, shape: &Shape) -> bool
+/// Returns whether all of the tree's blocks are covered, which lie on the hash image then.
+pub(crate) fn covers_tree(layout: &Layout, shape: &Shape) -> bool
     ensures { result ≡ covers_tree layout.now shape.now }
 {
     layout.hash_first >= shape.start() && layout.hash_blocks >= shape.area_blocks()

@@ -32,7 +32,7 @@ pub use memory_text::MemoryText;
 pub use named_parts::partition_under;
 pub use one_file::{is_block_device, is_one_file};
 pub use opening::{UnopenedFile, is_one_place, open_apart, open_image, read_text};
-pub use partitions::part_of;
+pub use partitions::{only_named, part_of};
 pub use parts::{PartFault, UnopenedPart, device_part, open_part};
 pub use placed_image::{Place, PlacedImage, has_own_size, is_one_image, place_use};
 pub use places::{

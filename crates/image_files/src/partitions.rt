@@ -151,8 +151,12 @@ fn named_part(
     }
 }
 
-// The only partition that an argument names, `None` also if it names two.
-fn only_named(
+/// Returns the only partition that an argument names, or `None` if it names none or more than one.
+///
+/// # Errors
+///
+/// `OutOfMemory` if memory for a label was refused.
+pub fn only_named(
     alloc: Global,
     partitions: &[Partition],
     named: NamedPartition<'_>,

@@ -42,7 +42,7 @@ const UPDATE_USAGE: &str =
     "dmstack update [--json] [--no-index] [--progress] --pin FILE DATA HASH NEWDATA NEWHASH [DATACOPY HASHCOPY]...";
 
 const PARTITIONS_USAGE: &str =
-    "dmstack partitions [--sector-size 512|4096] [--json] [--stack] [--root ROOT] [--pin FILE] [--writable] IMAGE";
+    "dmstack partitions [--sector-size 512|4096] [--json] [--stack] [--root ROOT] [--pin FILE] [--writable] [--fec PARTITION] [--fec-roots N] IMAGE";
 
 const ASSEMBLE_USAGE: &str =
     "dmstack assemble [--type TYPE] [--arch ARCH] [--fec] [--sector-size 512|4096] [--draw-from SEED] [--progress] [--pin FILE] OUT DATA";

@@ -1,5 +1,6 @@
 mod KindLemmas
 mod EndingLemmas
+mod ImageTextLemmas
 mod LoadLemmas
 mod NameLemmas
 mod NoteLemmas

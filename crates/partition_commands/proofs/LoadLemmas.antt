@@ -64,3 +64,4 @@ text-end memory memory' refused refused' failed partitions_fault.Write m r ends 
 text-end memory memory' refused refused' failed (partitions_fault.Open file) m r ends = absurd ends
 text-end memory memory' refused refused' failed (partitions_fault.Pin cause) m r ends = absurd ends
 text-end memory memory' refused refused' failed (partitions_fault.Refused refusal) m r ends = absurd ends
+text-end memory memory' refused refused' failed (partitions_fault.Fec cause) m r ends = absurd ends

@@ -15,7 +15,7 @@ use Rattle.partition_commands.specs.Commands.{AreImageNotes, IsEntriesEnd, IsLin
 use Rattle.partition_commands.specs.Lines.{listed_text}
 use Rattle.partition_commands.specs.Loads.{IsQuiet}
 use Rattle.partition_commands.specs.Objects.{object_text}
-use Rattle.partition_commands.specs.RootCommands.{ArePinnedNotes, IsPinnedEnd, IsRootOfImageEnd, PrintsPinned, PrintsRootOfImage}
+use Rattle.partition_commands.specs.RootCommands.{ArePinnedNotes, ImagePlanRecord, IsPinnedEnd, IsRootOfImageEnd, PrintsPinned, PrintsRootOfImage}
 use Rattle.stack_files.specs.Warnings.{Notes}
 
 -- the size of sectors with which a table is looked for first: 4,096 bytes, or 512
@@ -26,21 +26,25 @@ size_of bytes = if bytes == 4096 then Bytes4096 else Bytes512
 abbrev pub plan_of : PartitionsRecord → StackPlan
 plan_of p = record { size = size_of p.sector_size; writable = p.writable }
 
+-- the same, and the parity
+abbrev pub image_plan_of : PartitionsRecord → ImagePlanRecord
+image_plan_of p = record { stack = plan_of p; fec = p.fec }
+
 -- a root hash that comes without a pin
 abbrev pub root_alone : List ℕ → TrustedRoot
 root_alone digest = record { root = digest; pin = None }
 
-abbrev pub PrintsForm : {S D : Type 0} → Calls S D → List ℕ → StackPlan → FormRecord → Option (List ℕ) → Option (List ℕ) → Notes → Type 0
-PrintsForm w path plan lines old new notes = PrintsOfImage w path plan.size listed_text old new notes
-PrintsForm w path plan object old new notes = PrintsOfImage w path plan.size object_text old new notes
-PrintsForm w path plan stack old new notes = PrintsEntriesOfImage w path plan old new notes
+abbrev pub PrintsForm : {S D : Type 0} → Calls S D → List ℕ → ImagePlanRecord → FormRecord → Option (List ℕ) → Option (List ℕ) → Notes → Type 0
+PrintsForm w path plan lines old new notes = PrintsOfImage w path plan.stack.size listed_text old new notes
+PrintsForm w path plan object old new notes = PrintsOfImage w path plan.stack.size object_text old new notes
+PrintsForm w path plan stack old new notes = PrintsEntriesOfImage w path plan.stack old new notes
 PrintsForm w path plan (root found) old new notes = PrintsRootOfImage w path plan (root_alone found) old new notes
 PrintsForm w path plan (pin file) old new notes = PrintsPinned w file path plan old new notes
 
-abbrev pub IsFormEnd : {S D : Type 0} → Calls S D → List ℕ → StackPlan → FormRecord → Bool → PartitionsFault → Type 0
-IsFormEnd w path plan lines failed fault = IsOpenedEnd w path (λ old new. IsLinesEnd old new plan.size failed) fault
-IsFormEnd w path plan object failed fault = IsOpenedEnd w path (λ old new. IsObjectEnd old new plan.size failed) fault
-IsFormEnd w path plan stack failed fault = IsOpenedEnd w path (λ old new. IsEntriesEnd old new plan failed) fault
+abbrev pub IsFormEnd : {S D : Type 0} → Calls S D → List ℕ → ImagePlanRecord → FormRecord → Bool → PartitionsFault → Type 0
+IsFormEnd w path plan lines failed fault = IsOpenedEnd w path (λ old new. IsLinesEnd old new plan.stack.size failed) fault
+IsFormEnd w path plan object failed fault = IsOpenedEnd w path (λ old new. IsObjectEnd old new plan.stack.size failed) fault
+IsFormEnd w path plan stack failed fault = IsOpenedEnd w path (λ old new. IsEntriesEnd old new plan.stack failed) fault
 IsFormEnd w path plan (root found) failed fault = IsRootOfImageEnd w path plan (root_alone found) failed fault
 IsFormEnd w path plan (pin file) failed fault = IsPinnedEnd w file path plan failed fault
 
@@ -55,11 +59,11 @@ IsFormQuiet lines old new fault = Unit {0}
 IsFormQuiet form old new fault = IsQuiet old new fault
 
 abbrev pub ListsPartitions : {S D : Type 0} → Calls S D → PartitionsRecord → Option (List ℕ) → Option (List ℕ) → Notes → Type 0
-ListsPartitions w p old new notes = PrintsForm w p.image (plan_of p) p.form old new notes
+ListsPartitions w p old new notes = PrintsForm w p.image (image_plan_of p) p.form old new notes
 
 -- why it ends early, and what it printed among the errors before
 abbrev pub IsListingEnd : {S D : Type 0} → Calls S D → PartitionsRecord → Bool → Notes → PartitionsFault → Type 0
-IsListingEnd w p failed notes fault = IsFormEnd w p.image (plan_of p) p.form failed fault × AreFormNotes w p.image (size_of p.sector_size) p.form notes fault
+IsListingEnd w p failed notes fault = IsFormEnd w p.image (image_plan_of p) p.form failed fault × AreFormNotes w p.image (size_of p.sector_size) p.form notes fault
 
 -- ---- as a call sees them, by the program's own words
 

@@ -7,6 +7,7 @@ pub mod Loads
 pub mod NamedKinds
 pub mod Names
 pub mod Objects
+pub mod Parities
 pub mod Parts
 pub mod Prints
 pub mod RefusalNames

@@ -1,8 +1,9 @@
 -- What `partitions --root` and `--pin` print of an image if they succeed, and how they end early.
-use Rattle.std.specs.Prelude.{◌≡◌, ◌⊎◌, ℕ, ◌++◌, Bool, true, false, List, Option, None, Ok, Err}
+use Rattle.std.specs.Prelude.{◌≡◌, ◌⊎◌, ℕ, ◌++◌, Bool, true, false, List, Option, None, Ok, Err, option_map}
 use Rattle.std.specs.Io.KnownBytes.{Appends}
 use Rattle.allocation.specs.Refusal.{IsOutOfMemory}
 use Rattle.block_device.specs.Device.{Device}
+use Rattle.command_line.specs.FecFiles.{FecRecord, fec_record}
 use Rattle.program_io.specs.Counted.{CountedRecord}
 use Rattle.device_adapters.specs.declared.part.Part.{Part}
 use Rattle.device_adapters.specs.Parts.{LiesInside}
@@ -29,7 +30,9 @@ use Rattle.verity_format.specs.declared.verifying.VerifyFault.TheVariants.{TooSm
 use Rattle.verity_format.specs.Superblock.{SuperRecord}
 use Rattle.verity_format.specs.Verifying.{IsReadCause, IsReadFrom}
 use Rattle.partition_commands.specs.declared.fault.PartitionsFault.{PartitionsFault}
-use Rattle.partition_commands.specs.declared.fault.PartitionsFault.TheVariants.{NoMemory, NotLoadable, Open, Pin, Refused, Write}
+use Rattle.partition_commands.specs.declared.fault.PartitionsFault.TheVariants.{Fec, NoMemory, NotLoadable, Open, Pin, Refused, Write}
+use Rattle.partition_commands.specs.declared.parity.ImageParity.{ImageParity}
+use Rattle.partition_commands.specs.declared.plan.ImagePlan.{ImagePlan}
 use Rattle.partition_commands.specs.declared.plan.StackPlan.{StackPlan}
 use Rattle.partition_commands.specs.declared.refusal.PartitionRefusal.{PartitionRefusal}
 use Rattle.partition_commands.specs.declared.refusal.PartitionRefusal.TheVariants.{OutsideDevice, Superblock, Table, Unpinned}
@@ -37,12 +40,18 @@ use Rattle.partition_commands.specs.declared.root.ImagePartitions.{ImagePartitio
 use Rattle.partition_commands.specs.Commands.{EndsTableless, IsImageUnopened, NotesOfImage}
 use Rattle.partition_commands.specs.Loads.{IsUnloadable, Loads}
 use Rattle.image_files.specs.Partitions.{part_of}
+use Rattle.partition_commands.specs.Parities.{HasParity, LacksParity}
 use Rattle.partition_commands.specs.Parts.{is_within}
-use Rattle.partition_commands.specs.RootStacks.{is_unfit, root_room, root_stack_text}
+use Rattle.partition_commands.specs.RootStacks.{image_room, image_stack_text, is_unfit, root_stack_text}
 use Rattle.partition_commands.specs.Roots.{image_partitions}
 use Rattle.partition_commands.specs.Signatures.{SeeksSignature, signature_entry}
 use Rattle.stack_files.specs.Warnings.{IsNoted, Notes}
 use Rattle.partition_commands.specs.Warnings.{warning_text}
+
+-- the size of sectors, whether `data` is writable, and the argument of the parity's partition
+pub record ImagePlanRecord : Type 0 where
+  pub stack : StackPlan
+  pub fec : Option FecRecord
 
 -- both partitions lie inside the device, the superblock was read in the verity partition, it has the values of the pin, if there
 -- is one, and they have the sectors of its data blocks and of its tree
@@ -72,14 +81,25 @@ pub record FindsPair {D : Type 0} (state : D → Device) (device : D) (size : Se
 abbrev pub pair_text : {D : Type 0} {state : D → Device} {device : D} {size : SectorSize} {trusted : TrustedRoot} → Bool → FindsPair state device size trusted → List ℕ
 pair_text {D} {state} {device} {size} {trusted} writable pair = root_stack_text writable pair.table.size pair.both pair.super trusted.root ++ signature_entry pair.table.size pair.signed
 
--- they were found, and their text loads and was written
-pub record PrintsRoot {D : Type 0} (state : D → Device) (device : D) (plan : StackPlan) (trusted : TrustedRoot) (old new : Option (List ℕ)) (notes : Notes) : Type 0 where
-  pub pair : FindsPair state device plan.size trusted
-  pub loads : Loads plan.writable (state pair.signed_device).size (pair_text plan.writable pair)
-  pub printed : Appends old new (pair_text plan.writable pair)
+-- the text of the same stack with parity, if there is one
+abbrev pub image_text : {D : Type 0} {state : D → Device} {device : D} {size : SectorSize} {trusted : TrustedRoot} → Bool → FindsPair state device size trusted → Option ImageParity → List ℕ
+image_text {D} {state} {device} {size} {trusted} writable pair parity =
+    image_stack_text writable pair.table.size pair.both pair.super trusted.root parity ++ signature_entry pair.table.size pair.signed
+
+-- the parity of the image, if the plan names its partition
+abbrev pub HasParityOf : {D : Type 0} {state : D → Device} {device : D} {size : SectorSize} {trusted : TrustedRoot} → FindsPair state device size trusted → Option FecRecord → Option ImageParity → Type 0
+HasParityOf {D} {state} {device} {size} {trusted} pair fec parity = HasParity (state pair.signed_device).size pair.table pair.both.verity pair.super fec parity
+
+-- they were found, and the parity, and their text loads and was written
+pub record PrintsRoot {D : Type 0} (state : D → Device) (device : D) (plan : ImagePlanRecord) (trusted : TrustedRoot) (old new : Option (List ℕ)) (notes : Notes) : Type 0 where
+  pub pair : FindsPair state device plan.stack.size trusted
+  pub parity : Option ImageParity
+  pub has : HasParityOf pair plan.fec parity
+  pub loads : Loads plan.stack.writable (state pair.signed_device).size (image_text plan.stack.writable pair parity)
+  pub printed : Appends old new (image_text plan.stack.writable pair parity)
   pub noted : IsNoted notes (warning_text (state pair.read_device) pair.table)
 
-pub record PrintsRootOfImage {S D : Type 0} (w : Calls S D) (path : List ℕ) (plan : StackPlan) (trusted : TrustedRoot) (old new : Option (List ℕ)) (notes : Notes) : Type 0 where
+pub record PrintsRootOfImage {S D : Type 0} (w : Calls S D) (path : List ℕ) (plan : ImagePlanRecord) (trusted : TrustedRoot) (old new : Option (List ℕ)) (notes : Notes) : Type 0 where
   pub image : OpenImage D
   pub opened : Opens w path false image
   pub prints : PrintsRoot w.state image.device plan trusted old new notes
@@ -138,39 +158,52 @@ pub record LacksTable {D : Type 0} (state : D → Device) (device : D) (size : S
   pub none : IsNoSizedTable (state device) (state read_device) size fault
   pub is : refusal ≡ Table fault
 
+-- both hold an image, and the parity that the plan names isn't found or doesn't cover it
+pub record LacksParityOf {D : Type 0} (state : D → Device) (device : D) (plan : ImagePlanRecord) (trusted : TrustedRoot) (fault : PartitionsFault) : Type 0 where
+  pub pair : FindsPair state device plan.stack.size trusted
+  pub lacks : LacksParity (state pair.signed_device).size pair.table pair.both.verity pair.super plan.fec fault
+
 -- both hold an image, and room for its text, or for the check of it, was refused
-pub record RefusesText {D : Type 0} (state : D → Device) (device : D) (size : SectorSize) (trusted : TrustedRoot) : Type 0 where
-  pub pair : FindsPair state device size trusted
-  pub refused : IsOutOfMemory (root_room pair.super trusted.root)
+pub record RefusesText {D : Type 0} (state : D → Device) (device : D) (plan : ImagePlanRecord) (trusted : TrustedRoot) : Type 0 where
+  pub pair : FindsPair state device plan.stack.size trusted
+  pub parity : Option ImageParity
+  pub has : HasParityOf pair plan.fec parity
+  pub refused : IsOutOfMemory (image_room pair.super trusted.root parity)
 
 -- both hold an image, and `load` would refuse its text over the disk
-pub record LacksLoad {D : Type 0} (state : D → Device) (device : D) (plan : StackPlan) (trusted : TrustedRoot) : Type 0 where
-  pub pair : FindsPair state device plan.size trusted
-  pub unloadable : IsUnloadable plan.writable (state pair.signed_device).size (pair_text plan.writable pair)
+pub record LacksLoad {D : Type 0} (state : D → Device) (device : D) (plan : ImagePlanRecord) (trusted : TrustedRoot) : Type 0 where
+  pub pair : FindsPair state device plan.stack.size trusted
+  pub parity : Option ImageParity
+  pub has : HasParityOf pair plan.fec parity
+  pub unloadable : IsUnloadable plan.stack.writable (state pair.signed_device).size (image_text plan.stack.writable pair parity)
 
--- one of these, or the text can't be written
-abbrev pub IsRootTextEnd : {D : Type 0} → (D → Device) → StackPlan → TrustedRoot → Bool → D → PartitionsFault → Type 0
-IsRootTextEnd state plan trusted failed device NoMemory = RefusesText state device plan.size trusted
-IsRootTextEnd state plan trusted failed device Write = failed ≡ true
-IsRootTextEnd state plan trusted failed device NotLoadable = LacksLoad state device plan trusted
-IsRootTextEnd state plan trusted failed device (Open file) = ⊥
-IsRootTextEnd state plan trusted failed device (Pin fault) = ⊥
-IsRootTextEnd {D} state plan trusted failed device (Refused refusal) =
-    LacksTable state device plan.size refusal
-    ⊎ (LacksPartitions state device plan.size trusted.root refusal ⊎ ((device' : D) × LacksSuperblock state device device' plan.size trusted refusal))
+-- one of these but parity, or the text can't be written
+abbrev pub IsImageTextEnd : {D : Type 0} → (D → Device) → ImagePlanRecord → TrustedRoot → Bool → D → PartitionsFault → Type 0
+IsImageTextEnd state plan trusted failed device NoMemory = RefusesText state device plan trusted
+IsImageTextEnd state plan trusted failed device Write = failed ≡ true
+IsImageTextEnd state plan trusted failed device NotLoadable = LacksLoad state device plan trusted
+IsImageTextEnd state plan trusted failed device (Open file) = ⊥
+IsImageTextEnd state plan trusted failed device (Pin fault) = ⊥
+IsImageTextEnd state plan trusted failed device (Fec fault) = ⊥
+IsImageTextEnd {D} state plan trusted failed device (Refused refusal) =
+    LacksTable state device plan.stack.size refusal
+    ⊎ (LacksPartitions state device plan.stack.size trusted.root refusal ⊎ ((device' : D) × LacksSuperblock state device device' plan.stack.size trusted refusal))
 
-pub record EndsRoot {S D : Type 0} (w : Calls S D) (path : List ℕ) (plan : StackPlan) (trusted : TrustedRoot) (failed : Bool) (fault : PartitionsFault) : Type 0 where
+abbrev pub IsRootTextEnd : {D : Type 0} → (D → Device) → ImagePlanRecord → TrustedRoot → Bool → D → PartitionsFault → Type 0
+IsRootTextEnd state plan trusted failed device fault = IsImageTextEnd state plan trusted failed device fault ⊎ LacksParityOf state device plan trusted fault
+
+pub record EndsRoot {S D : Type 0} (w : Calls S D) (path : List ℕ) (plan : ImagePlanRecord) (trusted : TrustedRoot) (failed : Bool) (fault : PartitionsFault) : Type 0 where
   pub image : OpenImage D
   pub opened : Opens w path false image
   pub ended : IsRootTextEnd w.state plan trusted failed image.device fault
 
-abbrev pub IsRootOfImageEnd : {S D : Type 0} → Calls S D → List ℕ → StackPlan → TrustedRoot → Bool → PartitionsFault → Type 0
+abbrev pub IsRootOfImageEnd : {S D : Type 0} → Calls S D → List ℕ → ImagePlanRecord → TrustedRoot → Bool → PartitionsFault → Type 0
 IsRootOfImageEnd w path plan trusted failed fault = IsImageUnopened (Refuses w path false) fault ⊎ EndsRoot w path plan trusted failed fault
 
 -- ---- with a pin
 
 -- the pin of a file was read before the image was opened, and then the stack of its root was printed
-pub record PrintsPinned {S D : Type 0} (w : Calls S D) (pin path : List ℕ) (plan : StackPlan) (old new : Option (List ℕ)) (notes : Notes) : Type 0 where
+pub record PrintsPinned {S D : Type 0} (w : Calls S D) (pin path : List ℕ) (plan : ImagePlanRecord) (old new : Option (List ℕ)) (notes : Notes) : Type 0 where
   pub between : S
   pub trusted : TrustedRoot
   pub told : TellsPin (record w { new = between }) pin trusted
@@ -182,13 +215,13 @@ IsPinUnread Because (Pin fault) = Because fault
 IsPinUnread Because fault = ⊥
 
 -- it was read, and then the command ended early
-pub record EndsPinned {S D : Type 0} (w : Calls S D) (pin path : List ℕ) (plan : StackPlan) (failed : Bool) (fault : PartitionsFault) : Type 0 where
+pub record EndsPinned {S D : Type 0} (w : Calls S D) (pin path : List ℕ) (plan : ImagePlanRecord) (failed : Bool) (fault : PartitionsFault) : Type 0 where
   pub between : S
   pub trusted : TrustedRoot
   pub told : TellsPin (record w { new = between }) pin trusted
   pub ended : IsRootOfImageEnd (record w { old = between }) path plan trusted failed fault
 
-abbrev pub IsPinnedEnd : {S D : Type 0} → Calls S D → List ℕ → List ℕ → StackPlan → Bool → PartitionsFault → Type 0
+abbrev pub IsPinnedEnd : {S D : Type 0} → Calls S D → List ℕ → List ℕ → ImagePlanRecord → Bool → PartitionsFault → Type 0
 IsPinnedEnd w pin path plan failed fault = IsPinUnread (IsPinFileEnd w pin) fault ⊎ EndsPinned w pin path plan failed fault
 
 -- what was printed among the errors: nothing, if there was no table yet
@@ -198,22 +231,26 @@ ArePinnedNotes {S} {D} w path size notes fault =
 
 -- ---- as a call sees them
 
-abbrev pub SaysRoot : {D W : Type 0} → (D → Device) → D → (W → Option (List ℕ)) → CountedRecord W → CountedRecord W → StackPlan → TrustedRoot → Notes → Type 0
-SaysRoot state device contents writer writer' plan trusted notes = PrintsRoot state device plan trusted (contents writer.inner) (contents writer'.inner) notes
+-- what the program's own value says
+abbrev pub image_plan : ImagePlan → ImagePlanRecord
+image_plan plan = record { stack = plan.stack; fec = option_map fec_record plan.fec }
 
-abbrev pub PrintsRootOf : {S D W : Type 0} → Opener S D → (D → Device) → S → S → (W → Option (List ℕ)) → CountedRecord W → CountedRecord W → List ℕ → StackPlan → TrustedRoot → Notes → Type 0
+abbrev pub SaysRoot : {D W : Type 0} → (D → Device) → D → (W → Option (List ℕ)) → CountedRecord W → CountedRecord W → ImagePlan → TrustedRoot → Notes → Type 0
+SaysRoot state device contents writer writer' plan trusted notes = PrintsRoot state device (image_plan plan) trusted (contents writer.inner) (contents writer'.inner) notes
+
+abbrev pub PrintsRootOf : {S D W : Type 0} → Opener S D → (D → Device) → S → S → (W → Option (List ℕ)) → CountedRecord W → CountedRecord W → List ℕ → ImagePlan → TrustedRoot → Notes → Type 0
 PrintsRootOf relations state images images' contents writer writer' path plan trusted notes =
-    PrintsRootOfImage (calls relations state images images') path plan trusted (contents writer.inner) (contents writer'.inner) notes
+    PrintsRootOfImage (calls relations state images images') path (image_plan plan) trusted (contents writer.inner) (contents writer'.inner) notes
 
-abbrev pub FailsToFindRoot : {S D W : Type 0} → Opener S D → (D → Device) → S → S → CountedRecord W → List ℕ → StackPlan → TrustedRoot → PartitionsFault → Type 0
-FailsToFindRoot relations state images images' writer' path plan trusted = IsRootOfImageEnd (calls relations state images images') path plan trusted writer'.failed
+abbrev pub FailsToFindRoot : {S D W : Type 0} → Opener S D → (D → Device) → S → S → CountedRecord W → List ℕ → ImagePlan → TrustedRoot → PartitionsFault → Type 0
+FailsToFindRoot relations state images images' writer' path plan trusted = IsRootOfImageEnd (calls relations state images images') path (image_plan plan) trusted writer'.failed
 
-abbrev pub PrintsPinnedOf : {S D W : Type 0} → Opener S D → (D → Device) → S → S → (W → Option (List ℕ)) → CountedRecord W → CountedRecord W → List ℕ → List ℕ → StackPlan → Notes → Type 0
+abbrev pub PrintsPinnedOf : {S D W : Type 0} → Opener S D → (D → Device) → S → S → (W → Option (List ℕ)) → CountedRecord W → CountedRecord W → List ℕ → List ℕ → ImagePlan → Notes → Type 0
 PrintsPinnedOf relations state images images' contents writer writer' pin path plan notes =
-    PrintsPinned (calls relations state images images') pin path plan (contents writer.inner) (contents writer'.inner) notes
+    PrintsPinned (calls relations state images images') pin path (image_plan plan) (contents writer.inner) (contents writer'.inner) notes
 
-abbrev pub FailsToFindPinned : {S D W : Type 0} → Opener S D → (D → Device) → S → S → CountedRecord W → List ℕ → List ℕ → StackPlan → PartitionsFault → Type 0
-FailsToFindPinned relations state images images' writer' pin path plan = IsPinnedEnd (calls relations state images images') pin path plan writer'.failed
+abbrev pub FailsToFindPinned : {S D W : Type 0} → Opener S D → (D → Device) → S → S → CountedRecord W → List ℕ → List ℕ → ImagePlan → PartitionsFault → Type 0
+FailsToFindPinned relations state images images' writer' pin path plan = IsPinnedEnd (calls relations state images images') pin path (image_plan plan) writer'.failed
 
 abbrev pub NotesPinned : {S D : Type 0} → Opener S D → (D → Device) → S → S → List ℕ → SectorSize → Notes → PartitionsFault → Type 0
 NotesPinned relations state images images' path size notes = ArePinnedNotes (calls relations state images images') path size notes

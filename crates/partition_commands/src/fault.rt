@@ -6,6 +6,7 @@ ghost use Rattle.partition_commands.specs.declared.refusal.PartitionRefusal.TheV
 
 use crate::PartitionRefusal;
 use allocation::OutOfMemory;
+use fec_commands::FecFault;
 use image_commands::ImageFault;
 use image_files::UnopenedFile;
 use partition_table::NoTable;
@@ -58,6 +59,8 @@ pub enum PartitionsFault<'a> {
     Pin(ImageFault<'a>),
     /// Its partitions can't serve.
     Refused(PartitionRefusal),
+    /// The parity doesn't cover the image.
+    Fec(FecFault<'a>),
     /// `load` would refuse the stack over the image.
     NotLoadable,
     /// A line can't be written.
@@ -109,6 +112,14 @@ impl From<PartitionRefusal> for PartitionsFault<'_> {
 
     fn from(refusal: PartitionRefusal) -> Self {
         PartitionsFault::Refused(refusal)
+    }
+}
+
+impl<'a> From<FecFault<'a>> for PartitionsFault<'a> {
+    ghost from_gives = { λ fault given. given ≡ partitions_fault.Fec fault };
+
+    fn from(fault: FecFault<'a>) -> Self {
+        PartitionsFault::Fec(fault)
     }
 }
 

@@ -5,6 +5,7 @@ ghost use Rattle.partition_commands.specs.FaultTexts.{partitions_status, partiti
 
 use crate::fault::PartitionsFault;
 use crate::refusal::say_refusal;
+use fec_commands::{fec_status, say_fec_fault};
 use io_fault_text::{say_no_memory, say_refused, say_unopened};
 use program_io::{Counted, WriteFault};
 use std::io::Write;
@@ -28,14 +29,23 @@ pub fn say_partitions_fault<W: Write>(
         PartitionsFault::Open(file) => say_unopened(writer, file),
         PartitionsFault::Pin(fault) => say_image_fault(writer, fault),
         PartitionsFault::Refused(refusal) => say_refusal(writer, refusal),
+        PartitionsFault::Fec(fault) => say_fec_fault(writer, fault),
         PartitionsFault::NotLoadable => say_refused(writer, 46, "NotLoadable"),
         PartitionsFault::Write => Ok(()),
     }
 }
 
-/// The status of a command that ends so: 1, refused.
-pub fn partitions_status(_fault: PartitionsFault<'_>) -> u8
-    ensures { result ≡ partitions_status }
+/// The status of a command that ends so: 1, refused; of parity as `table --fec` has it.
+pub fn partitions_status(fault: PartitionsFault<'_>) -> u8
+    ensures { result ≡ partitions_status fault.entry }
 {
-    REFUSED
+    match fault {
+        PartitionsFault::Fec(fault) => fec_status(fault),
+        PartitionsFault::NoMemory
+        | PartitionsFault::Open(_)
+        | PartitionsFault::Pin(_)
+        | PartitionsFault::Refused(_)
+        | PartitionsFault::NotLoadable
+        | PartitionsFault::Write => REFUSED,
+    }
 }

@@ -3,10 +3,10 @@ ghost use Rattle.std.specs.Prelude.{◌≡◌, OnOk, IfErr};
 ghost use Rattle.partition_commands.specs.Invocations.{EndsFormQuiet, FailsToList, ListsByWords, size_of};
 ghost use Rattle.stack_files.specs.Warnings.{notes_of};
 
-use crate::StackPlan;
 use crate::fault::PartitionsFault;
 use crate::image::{object_of_image, partitions_of_image, stack_of_image};
 use crate::root_stack::{pinned_stack_of_image, root_stack_of_image};
+use crate::{ImagePlan, StackPlan};
 use command_line::{PartitionForm, PartitionsWords};
 use image_files::Images;
 use image_pin::TrustedRoot;
@@ -28,8 +28,8 @@ fn size_of(bytes: u32) -> SectorSize
     }
 }
 
-/// `partitions [--sector-size 512|4096] [--json | --stack | --root ROOT | --pin FILE] [--writable] IMAGE`: prints the table in that
-/// form. What is unusual of the table goes to `errors`.
+/// `partitions [--sector-size 512|4096] [--json | --stack | --root ROOT | --pin FILE] [--writable] [--fec PARTITION [--fec-roots N]]
+/// IMAGE`: prints the table in that form. What is unusual of the table goes to `errors`.
 ///
 /// # Errors
 ///
@@ -47,14 +47,18 @@ pub fn invoke_partitions<'a, I: Images, W: Write, E: Write>(
 {
     let image = words.image;
     let size = size_of(words.sector_size);
-    let plan = StackPlan {
+    let stack = StackPlan {
         size,
         writable: words.writable,
+    };
+    let plan = ImagePlan {
+        stack,
+        fec: words.fec,
     };
     match words.form {
         PartitionForm::Lines => partitions_of_image(alloc, images, image, size, writer, errors),
         PartitionForm::Object => object_of_image(alloc, images, image, size, writer, errors),
-        PartitionForm::Stack => stack_of_image(alloc, images, image, &plan, writer, errors),
+        PartitionForm::Stack => stack_of_image(alloc, images, image, &stack, writer, errors),
         PartitionForm::Root(root) => {
             let trusted = TrustedRoot { root, pin: None };
             root_stack_of_image(alloc, images, image, &plan, &trusted, writer, errors)

@@ -1,6 +1,6 @@
 //! Where a partition lies on the device.
 ghost use Rattle.std.specs.Prelude.{◌≡◌};
-ghost use Rattle.partition_commands.specs.Parts.{are_within, is_within};
+ghost use Rattle.partition_commands.specs.Parts.{are_within, ends_by, is_within};
 
 use block_device::BlockDev;
 use device_adapters::Part;
@@ -11,7 +11,14 @@ use partition_table::{Partition, SectorSize};
 pub(crate) fn is_within<D: BlockDev>(device: &D, part: Part) -> bool
     ensures { result ≡ is_within (D.state device.now) part }
 {
-    u128::from(part.first) + u128::from(part.count) <= u128::from(device.sectors())
+    ends_by(device.sectors(), part)
+}
+
+/// Whether the part ends within so many sectors.
+pub(crate) fn ends_by(sectors: u64, part: Part) -> bool
+    ensures { result ≡ ends_by sectors part }
+{
+    u128::from(part.first) + u128::from(part.count) <= u128::from(sectors)
 }
 
 /// Whether all partitions end on the device.

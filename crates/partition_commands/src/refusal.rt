@@ -23,7 +23,7 @@ pub enum PartitionRefusal {
     NoVerityPartition,
     /// Several have it.
     TwoVerityPartitions,
-    /// The verity partition isn't inside the image.
+    /// A partition isn't inside the image.
     OutsideDevice,
     /// There is no good superblock in the verity partition.
     Superblock(VerifyFault),

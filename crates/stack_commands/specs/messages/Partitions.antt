@@ -7,7 +7,7 @@ use Rattle.partition_commands.specs.declared.fault.PartitionsFault.TheVariants a
 use Rattle.manual_pages.specs.messages.Images.{verify_message}
 use Rattle.manual_pages.specs.messages.Opening.{open_message}
 use Rattle.manual_pages.specs.messages.Pins.{mismatch_message}
-use Rattle.stack_commands.specs.messages.Images.{image_message}
+use Rattle.stack_commands.specs.messages.Images.{fec_message, image_message}
 
 -- partitions that can't serve
 unfoldable pub partition_message : PartitionRefusal → Option (List ℕ)
@@ -26,5 +26,6 @@ partitions_message partitions.NoMemory = None
 partitions_message (partitions.Open file) = open_message file.fault
 partitions_message (partitions.Pin fault) = image_message fault
 partitions_message (partitions.Refused refusal) = partition_message refusal
+partitions_message (partitions.Fec fault) = fec_message fault
 partitions_message partitions.NotLoadable = Some (codes "'dmstack load' would refuse the stack, as one of more than 64 partitions: use '--root'")
 partitions_message partitions.Write = None

@@ -3,7 +3,7 @@ ghost use Rattle.std.specs.Prelude.{◌≡◌};
 ghost use Rattle.command_line.specs.FormatOptions.{text_of};
 ghost use Rattle.stack_commands.specs.messages.Partitions.{partition_message, partitions_message};
 
-use crate::messages::images::image_message;
+use crate::messages::images::{fec_message, image_message};
 use manual_pages::{mismatch_message, open_message, verify_message};
 use partition_commands::{PartitionRefusal, PartitionsFault};
 
@@ -46,6 +46,7 @@ pub fn partitions_message(fault: PartitionsFault<'_>) -> Option<&'static str>
         PartitionsFault::Open(file) => open_message(file.fault),
         PartitionsFault::Pin(fault) => image_message(fault),
         PartitionsFault::Refused(refusal) => partition_message(refusal),
+        PartitionsFault::Fec(fault) => fec_message(fault),
         PartitionsFault::NotLoadable => Some(
             "'dmstack load' would refuse the stack, as one of more than 64 partitions: use '--root'",
         ),
