@@ -3,6 +3,7 @@ import os
 import shutil
 import subprocess
 
+MOST_SECONDS = 120
 TOP = os.path.dirname(os.path.dirname(os.path.dirname(os.path.realpath(__file__))))
 
 
@@ -23,7 +24,7 @@ class Case:
         self.words = lines_of(self.text("args"))
         self.given = self.text("stdin")
         if os.path.isdir(f"{folder}/files"):
-            shutil.copytree(f"{folder}/files", self.start)
+            shutil.copytree(f"{folder}/files", self.start, symlinks=True)
         else:
             os.mkdir(self.start)
         if self.has("before"):
@@ -40,9 +41,9 @@ class Case:
     def renew(self):
         """The files as they are before a run."""
         shutil.rmtree(self.files, ignore_errors=True)
-        shutil.copytree(self.start, self.files)
+        shutil.copytree(self.start, self.files, symlinks=True)
 
     def run(self, program, settings, given=None):
         """The run of the program over the files as they are, with these settings of the environment: output and status."""
         return subprocess.run([program, *self.words], input=self.given if given is None else given, cwd=self.files,
-                              env={**os.environ, **settings}, capture_output=True, timeout=20, check=False)
+                              env={**os.environ, **settings}, capture_output=True, timeout=MOST_SECONDS, check=False)
