@@ -3,7 +3,7 @@
 /// How a command reports what it found.
 #[derive(Clone, Copy, Debug, PartialEq, Eq)]
 pub enum ReportForm {
-    /// A line for each run as it is found, and the counts.
+    /// A line for each run, and the counts.
     Lines,
     /// A line for each run, a map, and the counts, all at the end.
     Chart,

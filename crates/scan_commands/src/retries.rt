@@ -23,8 +23,8 @@ pub(crate) struct TriedMap {
     pub(crate) passes: u64,
 }
 
-/// Reads the sectors of a mapped device that a map doesn't mark as read, in as many passes as lost sectors are read again, or until
-/// none is left, and returns the new map. Each pass goes in turns, and reports nothing; the pass that reports lost sectors comes
+/// Reads the unscraped sectors of a map, if any, and then the bad ones, in as many passes as lost sectors are read again, or until none
+/// is left, and returns the new map. Each pass goes in turns, and reports nothing; the pass that reports lost sectors comes
 /// after these.
 ///
 /// # Errors

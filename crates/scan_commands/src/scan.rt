@@ -74,7 +74,7 @@ pub fn scan_device<'a, I: Images, W: Write, E: Write, P: Progress>(
     report_scan(alloc, images, &mut passing, plan, writer, progress)
 }
 
-// Scans an open device. Prints each lost run as it is found, or keeps the runs for a map or one JSON object.
+// Scans an open device. Prints the lost runs after the last pass, or keeps them for a map or one JSON object.
 fn report_scan<'a, I: Images, D: BlockDev, W: Write, P: Progress>(
     alloc: Global,
     images: &mut I,
