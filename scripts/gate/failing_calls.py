@@ -22,7 +22,6 @@ positioned read and write and each sync, in their order: which call it is, of wh
 read and written, and, where it fails, the sums (FNV-1a in 32 bits) of what all leaves hold afterwards. scripts/gate/failing_writes.py
 writes such cases.
 """
-import argparse
 import copy
 import os
 import shutil
@@ -34,7 +33,7 @@ sys.dont_write_bytecode = True
 TOP = os.path.dirname(os.path.dirname(os.path.dirname(os.path.realpath(__file__))))
 sys.path += [f"{TOP}/scripts/lib", f"{TOP}/scripts/model"]
 
-from cases import Case, lines_of, read_file  # noqa: E402
+from cases import Case, lines_of, program_and_names, read_file  # noqa: E402
 from command_line import Files, binding, bound, cut_words, features_without  # noqa: E402
 from configuration import Refused  # noqa: E402
 from failing_recovery import Recovery, Unlike as Wrong  # noqa: E402
@@ -395,20 +394,14 @@ def check_case(case):
 
 
 def main():
-    parser = argparse.ArgumentParser(description="Fails each call of the program in turn.")
-    parser.add_argument("--program")
-    parser.add_argument("names", nargs="*")
-    words = parser.parse_args()
-    if not words.program:
-        subprocess.run([f"{TOP}/scripts/lib/built.sh", "dmstack"], check=True)
-    program = os.path.realpath(words.program or f"{TOP}/crates/dmstack/out/dmstack")
+    program, names = program_and_names("Fails each call of the program in turn.", FOLDER)
     passed = failed = 0
     place = tempfile.mkdtemp(prefix="failing.", dir="/dev/shm" if os.path.isdir("/dev/shm") else None)
     try:
         library = f"{place}/fail.so"
         sources = [f"{TOP}/scripts/gate/{it}" for it in ("fail_calls.c", "refuse_alloc.c")]
         subprocess.run(["cc", "-shared", "-fPIC", "-O2", "-o", library, *sources, "-ldl"], check=True)
-        for name in words.names or sorted(os.listdir(FOLDER)):
+        for name in names:
             room = f"{place}/{name}"
             os.mkdir(room)
             try:

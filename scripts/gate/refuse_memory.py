@@ -7,7 +7,6 @@ A case is as scripts/lib/case.sh says, with the file `allowed`: on each line a s
 first is what a run without a refusal gives; the others are what may come where one was met. A file `program` names another
 program than dmstack: `bench` makes the calls that no command makes.
 """
-import argparse
 import os
 import subprocess
 import sys
@@ -17,7 +16,7 @@ sys.dont_write_bytecode = True
 TOP = os.path.dirname(os.path.dirname(os.path.dirname(os.path.realpath(__file__))))
 sys.path += [f"{TOP}/scripts/lib", f"{TOP}/scripts/model"]
 
-from cases import Case, lines_of  # noqa: E402
+from cases import Case, lines_of, program_and_names  # noqa: E402
 from checks import Checks  # noqa: E402
 from sentences import without_sentence  # noqa: E402
 
@@ -67,18 +66,12 @@ def check_case(case, name, program, library):
 
 
 def main():
-    parser = argparse.ArgumentParser(description="Refuses each allocation of the program in turn.")
-    parser.add_argument("--program")
-    parser.add_argument("names", nargs="*")
-    words = parser.parse_args()
-    if not words.program:
-        subprocess.run([f"{TOP}/scripts/lib/built.sh", "dmstack"], check=True)
-    dmstack = os.path.realpath(words.program or f"{TOP}/crates/dmstack/out/dmstack")
+    dmstack, names = program_and_names("Refuses each allocation of the program in turn.", FOLDER)
     checks = Checks()
     with tempfile.TemporaryDirectory(prefix="refused.", dir="/dev/shm" if os.path.isdir("/dev/shm") else None) as place:
         library = f"{place}/refuse.so"
         subprocess.run(["cc", "-shared", "-fPIC", "-O2", "-o", library, f"{TOP}/scripts/gate/refuse_alloc.c", "-ldl"], check=True)
-        for name in words.names or sorted(os.listdir(FOLDER)):
+        for name in names:
             os.mkdir(f"{place}/{name}")
             case = Case(f"{FOLDER}/{name}", f"{place}/{name}")
             is_well = check_case(case, name, program_of(case, dmstack), library)

@@ -1,4 +1,5 @@
 """Cases of the form that case.sh describes, for scripts that run the program many times on each."""
+import argparse
 import os
 import shutil
 import subprocess
@@ -14,6 +15,18 @@ def read_file(path):
 
 def lines_of(text):
     return text.split(b"\n")[:-1]
+
+
+def program_and_names(description, folder):
+    """What a script over the cases of a folder is given, `[--program FILE] [NAME..]`: the program, which is built if no other one is named,
+    and the cases' names."""
+    parser = argparse.ArgumentParser(description=description)
+    parser.add_argument("--program")
+    parser.add_argument("names", nargs="*")
+    words = parser.parse_args()
+    if not words.program:
+        subprocess.run([f"{TOP}/scripts/lib/built.sh", "dmstack"], check=True)
+    return os.path.realpath(words.program or f"{TOP}/crates/dmstack/out/dmstack"), words.names or sorted(os.listdir(folder))
 
 
 class Case:

@@ -63,7 +63,7 @@ AfterTrim status meant known = (status ≡ Unscraped) ⊎ (IsKnown status meant 
 abbrev AfterScrape : Status → SectorState → Type 0
 AfterScrape status meant = (status ≡ Bad) ⊎ IsHad status meant
 
--- and after so many passes behind it
+-- and after so many more passes
 abbrev AfterSteps : ℕ → Status → SectorState → SectorState → Type 0
 AfterSteps zero status meant known = AfterTrim status meant known
 AfterSteps (suc n) status meant known = AfterScrape status meant
