@@ -8,13 +8,14 @@ use Rattle.stack_recovery.specs.declared.deadline.DevicePass.{DevicePass}
 use Rattle.stack_recovery.specs.declared.fault.RecoveryFault.{RecoveryFault}
 use Rattle.stack_recovery.specs.declared.fault.RecoveryFault.TheVariants.{NoMemory, Output}
 use Rattle.stack_recovery.specs.Recoveries.{AreMarksNoted, Parties, counted_sectors}
-use Rattle.stack_recovery.specs.declared.recovery.Counts.{Counts}
+use Rattle.stack_recovery.specs.declared.recovery.Course.{Course}
 use Rattle.stack_recovery.specs.declared.rescued.Rescued.{Rescued}
-use Rattle.stack_recovery.specs.Surveys.{Finding, IsSurveyOver, PieceRead, all_states, had, states_of}
+use Rattle.stack_recovery.specs.Surveys.{Finding, IsSurveyOver, PieceRead, all_states, had, probed, states_of}
 
 -- a piece that was read is written at once, by one call; no other piece is
 abbrev pub calls_found : ℕ → Finding → List Call
 calls_found first (had bytes) = Write first bytes true ∷ []
+calls_found first (probed behind bytes) = Write (first + behind) bytes true ∷ []
 calls_found first other = []
 
 -- the calls for a list of pieces, from sector `first` on
@@ -32,17 +33,17 @@ pub record HandsOverTo {O L : Type 0} (Did : O → Call → O → Type 0) (marks
   pub made : Calls Did old.out (copy_calls 0 reads) new.out
 
 -- those of a pass over the sectors that are counted
-abbrev pub HandsOverUntil : {O L : Type 0} → (O → Call → O → Type 0) → DevicePass → List Bool → Parties O L → Option (List Run) → Parties O L → Counts → Type 0
-HandsOverUntil Did pass marks old after new counts = HandsOverTo Did marks pass.device.0 (counted_sectors counts) old after new
+abbrev pub HandsOverUntil : {O L : Type 0} → (O → Call → O → Type 0) → DevicePass → List Bool → Parties O L → Option (List Run) → Parties O L → Course → Type 0
+HandsOverUntil Did pass marks old after new course = HandsOverTo Did marks pass.device.0 (counted_sectors course.counts) old after new
 
 -- those of a pass that returns its map
 abbrev pub RescueHands : {O L : Type 0} → (O → Call → O → Type 0) → List Bool → ℕ → Parties O L → Parties O L → Rescued → Type 0
-RescueHands Did marks d old new rescued = HandsOverTo Did marks d (counted_sectors rescued.counts) old (Some rescued.map) new
+RescueHands Did marks d old new rescued = HandsOverTo Did marks d (counted_sectors rescued.course.counts) old (Some rescued.map) new
 
--- the calls after those of the pieces: none, or the failed write of the piece that was read last, from sector `at` on
+-- the calls after those of the pieces: none, or the failed write of the piece that was read last, from sector `at` on or behind it
 abbrev pub IsLastCall : ℕ → ℕ → StackRecord → StackRecord → RecoveryFault → List Call → Type 0
 IsLastCall d at left stack NoMemory calls = calls ≡ []
-IsLastCall d at left stack Output calls = (n : ℕ) × (bytes : List ℕ) × EachBytes left d at n (Ok bytes) stack × (calls ≡ Write at bytes false ∷ [])
+IsLastCall d at left stack Output calls = (behind : ℕ) × (n : ℕ) × (bytes : List ℕ) × EachBytes left d (at + behind) n (Ok bytes) stack × (calls ≡ Write (at + behind) bytes false ∷ [])
 
 -- The recovery ended early: the calls on the output device are those of the pieces so far. A write that failed is the last one.
 pub record HandsOverPart {O L : Type 0} (Did : O → Call → O → Type 0) (marks : List Bool) (d : ℕ) (old new : Parties O L) (fault : RecoveryFault) : Type 0 where

@@ -18,5 +18,6 @@ pub mod Skips
 pub mod Stretches
 pub mod Surveys
 pub mod Texts
+pub mod Ways
 pub mod Trims
 pub mod Losses

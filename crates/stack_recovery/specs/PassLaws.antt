@@ -5,7 +5,7 @@ use Rattle.stack_engine.specs.Healing.{HasNoParity}
 use Rattle.stack_engine.specs.Stacks.{StackRecord}
 use Rattle.stack_recovery.specs.PassPieces.{ArePassPieces, IsNextPiece, Pass}
 use Rattle.stack_recovery.specs.Skims.{AreSkims, IsSkimOver, Skim, marks_of}
-use Rattle.stack_recovery.specs.Surveys.{Finding, PieceRead, again, had, kept, lost, probed, trimmed}
+use Rattle.stack_recovery.specs.Surveys.{Finding, PieceRead, again, copied, had, kept, lost, probed, trimmed}
 
 -- a piece that is read is the one of at most 128 sectors; sectors that were read before are in none
 abbrev pub IsLongestPiece : Pass → ℕ → ℕ → Finding → Type 0
@@ -32,9 +32,10 @@ SweepsTryAll = (p : Pass) (first : ℕ) (skims : List Skim) → AreSkims 0 p fir
 
 -- ---- without scraping
 
--- no sectors are unscraped by it
+-- no sectors are unscraped by it, or read backwards
 abbrev pub IsScraped : Finding → Type 0
 IsScraped (trimmed behind fault) = ⊥
+IsScraped copied = ⊥
 IsScraped other = Unit {0}
 
 abbrev pub AreScraped : List PieceRead → Type 0
@@ -54,6 +55,7 @@ failed_reads (lost fault) = 1
 failed_reads (again fault) = 1
 failed_reads (probed behind bytes) = 0
 failed_reads (trimmed behind fault) = 1
+failed_reads copied = 0
 failed_reads kept = 0
 
 -- how many pieces of the first pass failed

@@ -1,18 +1,22 @@
 -- Which pieces a pass over a mapped device reads.
-use Rattle.std.specs.Prelude.{◌≡◌, ◌⊎◌, ℕ, ◌+◌, ◌-◌, ◌≤◌, Bool, true, false, List, [], ◌∷◌, length, if◌then◌else◌}
+use Rattle.std.specs.Prelude.{◌≡◌, ◌⊎◌, ℕ, ◌+◌, ◌-◌, ◌==◌, ◌≤◌, Bool, true, false, List, [], ◌∷◌, length, if◌then◌else◌}
 use Rattle.std.specs.List.{slice_index_or}
 use Rattle.stack_rules.specs.Names.{mapped, size}
 use Rattle.stack_rules.specs.Records.{Configuration}
 use Rattle.stack_recovery.specs.Pieces.{EndsAligned}
-use Rattle.stack_recovery.specs.Surveys.{AreMarked, Finding, PieceRead, again, had, kept, lost, probed, states_of, trimmed}
+use Rattle.stack_recovery.specs.Surveys.{AreMarked, Finding, PieceRead, again, copied, had, kept, lost, probed, states_of, trimmed}
+use Rattle.stack_recovery.specs.declared.way.Way.{Way}
+use Rattle.stack_recovery.specs.declared.way.Way.TheVariants.{Backward, Forward, Turned}
 
--- a mapped device, and whether sectors between lost ones aren't read
+-- A mapped device, and whether sectors between lost ones aren't read. An earlier pass ended before sector `turned`, reading backwards a run
+-- that begins there; 0 if none did.
 pub record Scanned : Type 0 where
   pub d : ℕ
   pub no_scrape : Bool
+  pub turned : ℕ
 
 abbrev pub scanned : ℕ → Bool → Scanned
-scanned d no_scrape = record { d = d; no_scrape = no_scrape }
+scanned d no_scrape = record { d = d; no_scrape = no_scrape; turned = 0 }
 
 -- a pass over device d, and the marks of the sectors that were read before
 pub record Pass : Type 0 where
@@ -36,53 +40,69 @@ pub record IsNextPiece (p : Pass) (first most n : ℕ) : Type 0 where
   pub run : IsUnreadTo p first end
   pub ends : EndsAligned p.config p.d first end most n
 
--- what a pass does that doesn't scrape: it reads on, it begins to read its run backwards after lost sectors, or the sectors from one on
--- up to the end of the run can be read
-pub data Trimming : Type 0 where
-  forward : Trimming
-  turning : Trimming
-  backward : ℕ → Trimming
+-- ---- the way that a pass goes on
 
--- what it does after a piece from sector `first` on, by its result
-abbrev pub trimming_found : Bool → ℕ → Finding → Trimming
-trimming_found no_scrape first (had bytes) = forward
-trimming_found no_scrape first (lost fault) = if no_scrape then turning else forward
-trimming_found no_scrape first (again fault) = forward
-trimming_found no_scrape first (probed behind bytes) = backward (first + behind)
-trimming_found no_scrape first (trimmed behind fault) = forward
-trimming_found no_scrape first kept = forward
+-- after sectors from sector `first` on and before `next` were read backwards: the run ends where the first of these pieces did
+abbrev pub way_probed : Way → ℕ → ℕ → Way
+way_probed (Backward low end) first next = Backward first end
+way_probed other first next = Backward first next
+
+-- after the last lost sectors of a run
+abbrev pub way_trimmed : Way → Way
+way_trimmed (Backward low end) = Backward low end
+way_trimmed other = Forward
+
+-- after a lost sector
+abbrev pub way_lost : Bool → Way
+way_lost no_scrape = if no_scrape then Turned else Forward
+
+-- after sectors that were read before the pass, up to that one
+abbrev pub way_kept : ℕ → ℕ → Way
+way_kept turned at = if at == turned then Turned else Forward
+
+-- after a piece of n sectors from sector `first` on, by its result
+abbrev pub way_found : Scanned → Way → ℕ → ℕ → Finding → Way
+way_found scan way first n (had bytes) = Forward
+way_found scan way first n (lost fault) = way_lost scan.no_scrape
+way_found scan way first n (again fault) = Forward
+way_found scan way first n (probed behind bytes) = way_probed way (first + behind) (first + n)
+way_found scan way first n (trimmed behind fault) = way_trimmed way
+way_found scan way first n copied = Forward
+way_found scan way first n kept = way_kept scan.turned (first + n)
 
 -- the sectors up to this end are read backwards: from the end of the run on, and then from where the last read began
-abbrev pub IsProbedTo : Pass → ℕ → Trimming → ℕ → Type 0
-IsProbedTo p first forward end = ⊥
-IsProbedTo p first turning end = IsUnreadTo p first end
-IsProbedTo p first (backward at) end = end ≡ at
+abbrev pub IsProbedTo : Pass → ℕ → Way → ℕ → Type 0
+IsProbedTo p first Forward end = ⊥
+IsProbedTo p first Turned end = IsUnreadTo p first end
+IsProbedTo p first (Backward low top) end = end ≡ low
 
--- the pass reads on at sector `first`: after a lost sector only once all after it could be read
-abbrev pub MayReadOn : Trimming → ℕ → Type 0
-MayReadOn forward first = Unit {0}
-MayReadOn turning first = ⊥
-MayReadOn (backward at) first = at ≡ first
+-- the sectors from this one on and before `end` are those that were read backwards
+abbrev pub IsCopiedTo : ℕ → Way → ℕ → Type 0
+IsCopiedTo first Forward end = ⊥
+IsCopiedTo first Turned end = ⊥
+IsCopiedTo first (Backward low top) end = (low ≡ first) × (top ≡ end)
 
--- Each piece is one sector, or of sectors that are lost together. Sectors that were read before are no piece.
-abbrev pub IsPieceFound : Pass → ℕ → Trimming → ℕ → Finding → Type 0
-IsPieceFound p first t n (had bytes) = MayReadOn t first × IsNextPiece p first 1 n
-IsPieceFound p first t n (lost fault) = MayReadOn t first × IsNextPiece p first 1 n
-IsPieceFound p first t n (again fault) = ⊥
-IsPieceFound p first t n (probed behind bytes) = IsProbedTo p first t (first + n)
-IsPieceFound p first t n (trimmed behind fault) = IsProbedTo p first t (first + n)
-IsPieceFound p first t n kept = Unit {0}
+-- Each piece is one sector, or of sectors that are lost together. Sectors that were read before are no piece. A run is read backwards once,
+-- after its first lost sector, and nothing of it is read twice.
+abbrev pub IsPieceFound : Pass → ℕ → Way → ℕ → Finding → Type 0
+IsPieceFound p first way n (had bytes) = (way ≡ Forward) × IsNextPiece p first 1 n
+IsPieceFound p first way n (lost fault) = (way ≡ Forward) × IsNextPiece p first 1 n
+IsPieceFound p first way n (again fault) = ⊥
+IsPieceFound p first way n (probed behind bytes) = IsProbedTo p first way (first + n)
+IsPieceFound p first way n (trimmed behind fault) = IsProbedTo p first way (first + n)
+IsPieceFound p first way n copied = IsCopiedTo first way (first + n)
+IsPieceFound p first way n kept = Unit {0}
 
 -- the pieces one after the other, from sector `first` on
-abbrev pub AreInPieces : Bool → Pass → ℕ → Trimming → List PieceRead → Type 0
-AreInPieces no_scrape p first t [] = Unit {0}
-AreInPieces no_scrape p first t (r ∷ more) = IsPieceFound p first t r.count r.found × AreInPieces no_scrape p (first + length (states_of r)) (trimming_found no_scrape first r.found) more
+abbrev pub AreInPieces : Scanned → Pass → ℕ → Way → List PieceRead → Type 0
+AreInPieces scan p first way [] = Unit {0}
+AreInPieces scan p first way (r ∷ more) = IsPieceFound p first way r.count r.found × AreInPieces scan p (first + length (states_of r)) (way_found scan way first r.count r.found) more
 
--- what the pass does after these pieces
-abbrev pub trimming_from : Bool → Trimming → ℕ → List PieceRead → Trimming
-trimming_from no_scrape t first [] = t
-trimming_from no_scrape t first (r ∷ more) = trimming_from no_scrape (trimming_found no_scrape first r.found) (first + length (states_of r)) more
+-- the way that the pass goes on after these pieces
+abbrev pub way_from : Scanned → Way → ℕ → List PieceRead → Way
+way_from scan way first [] = way
+way_from scan way first (r ∷ more) = way_from scan (way_found scan way first r.count r.found) (first + length (states_of r)) more
 
 -- the pieces of a whole pass by single sectors
-abbrev pub ArePassPieces : Bool → Pass → List PieceRead → Type 0
-ArePassPieces no_scrape p reads = AreInPieces no_scrape p 0 forward reads
+abbrev pub ArePassPieces : Scanned → Pass → List PieceRead → Type 0
+ArePassPieces scan p reads = AreInPieces scan p 0 Forward reads

@@ -18,16 +18,19 @@ use Rattle.runs.specs.Runs.{runs_of}
 use Rattle.stack_recovery.specs.declared.lost_run.Loss.TheVariants.{Lost, Unscraped}
 use Rattle.stack_recovery.specs.LostRuns.{LostRun, is_same_loss, lost_in, untried_in}
 use Rattle.stack_recovery.specs.declared.recovery.Counts.{Counts}
+use Rattle.stack_recovery.specs.declared.recovery.Course.{Course}
 use Rattle.stack_recovery.specs.declared.rescued.Rescued.{Rescued}
+use Rattle.stack_recovery.specs.declared.way.Way.{Way}
+use Rattle.stack_recovery.specs.declared.way.Way.TheVariants.{Forward}
 use Rattle.stack_recovery.specs.Copies.{IsCopied}
 use Rattle.stack_recovery.specs.Deadlines.{EndsAt}
 use Rattle.stack_recovery.specs.Listings.{Listed, Tells}
-use Rattle.stack_recovery.specs.PassPieces.{ArePassPieces, MayReadOn, Scanned, forward, pass_over, scanned, trimming_from}
+use Rattle.stack_recovery.specs.PassPieces.{ArePassPieces, Scanned, pass_over, way_from}
 use Rattle.stack_recovery.specs.Surveys.{IsSurveyOver, PieceRead, SectorState, all_states}
 
--- the device of a pass, and whether it doesn't scrape
+-- the device of a pass, whether it doesn't scrape, and where an earlier pass had turned
 abbrev pub scanned_by : DevicePass → Scanned
-scanned_by pass = scanned pass.device.0 pass.no_scrape
+scanned_by pass = record { d = pass.device.0; no_scrape = pass.no_scrape; turned = pass.turned }
 
 -- the stack, the output device, and what was printed
 pub record Sides : Type 0 where
@@ -45,7 +48,7 @@ pub record IsBegunOver (marks : List Bool) (scan : Scanned) (old new : Sides) : 
   pub runs : List LostRun
   pub more : List LostRun
   pub survey : IsSurveyOver marks scan.d 0 old.stack reads left
-  pub pieces : ArePassPieces scan.no_scrape (pass_over old.stack.config scan.d marks) reads
+  pub pieces : ArePassPieces scan (pass_over old.stack.config scan.d marks) reads
   pub first : runs_of is_same_loss 0 (all_states reads) ≡ runs ++ more
   pub printed : Tells old.printed new.printed runs
 
@@ -68,15 +71,16 @@ pub record RunsShort (makes_map : Bool) (marks : List Bool) (scan : Scanned) (ol
   pub refused : FindsNoMemory scan.d (length (all_states begun.reads)) begun.left new.stack ⊎ IsMapRefused makes_map
 
 -- A write of the output device failed. The sectors read before are copied. Of a steady device no sector differs from that but
--- those of the piece that was being written, which was read from where the last one ends.
+-- those of the piece that was being written, which was read from where the last one ends, or behind it.
 pub record FailsOutput (marks : List Bool) (scan : Scanned) (old new : Sides) : Type 0 where
   pub begun : IsBegunOver marks scan old new
   pub out : Device
+  pub behind : ℕ
   pub n : ℕ
   pub bytes : List ℕ
-  pub read : EachBytes begun.left scan.d (length (all_states begun.reads)) n (Ok bytes) new.stack
+  pub read : EachBytes begun.left scan.d (length (all_states begun.reads) + behind) n (Ok bytes) new.stack
   pub copied : IsCopied begun.reads old.out out
-  pub writing : IsWritten out (length (all_states begun.reads)) n false new.out
+  pub writing : IsWritten out (length (all_states begun.reads) + behind) n false new.out
   pub failed : HasFailed old.out new.out
   pub sure : IsTrue old.out.never_fails → ⊥
 
@@ -133,14 +137,14 @@ abbrev pub counts_in : List SectorState → Counts
 counts_in states = record { read = length states - (lost_in states + untried_in states); lost = lost_in states; untried = untried_in states }
 
 -- Each sector of device d before `end` was read, now or before, or is lost. The sectors that were read now were copied, a line was
--- printed for each longest lost run, the counts are right, and a map is made of these sectors. The pass ends at the end of the device, or
--- where it may read on: after a lost sector of a pass that doesn't scrape only once the run was read backwards.
-pub record GoesOverTo (before : List Bool) (scan : Scanned) (end : ℕ) (old : Sides) (counts : Counts) (made : Option (List Run)) (new : Sides) : Type 0 where
+-- printed for each longest lost run, the counts are right, and a map is made of these sectors. The pass would go on this way: if it has begun
+-- to read a run backwards, the sectors of the run that were read are copied too.
+pub record GoesOverTo (before : List Bool) (scan : Scanned) (end : ℕ) (way : Way) (old : Sides) (counts : Counts) (made : Option (List Run)) (new : Sides) : Type 0 where
   pub reads : List PieceRead
   pub survey : IsSurveyOver before scan.d 0 old.stack reads new.stack
   pub whole : length (all_states reads) ≡ end
-  pub pieces : ArePassPieces scan.no_scrape (pass_over old.stack.config scan.d before) reads
-  pub trims : (end ≡ size old.stack.config (mapped scan.d)) ⊎ MayReadOn (trimming_from scan.no_scrape forward 0 reads) end
+  pub pieces : ArePassPieces scan (pass_over old.stack.config scan.d before) reads
+  pub goes_on : way ≡ way_from scan Forward 0 reads
   pub copied : IsCopied reads old.out new.out
   pub unfailed : new.out.failures ≡ old.out.failures
   pub printed : Tells old.printed new.printed (runs_of is_same_loss 0 (all_states reads))
@@ -153,17 +157,17 @@ abbrev pub counted_sectors : Counts → ℕ
 counted_sectors counts = counts.read + (counts.lost + counts.untried)
 
 -- such a pass over the sectors that are counted, which ended there
-pub record GoesOverUntil (deadline : Option Deadline) (before : List Bool) (scan : Scanned) (old : Sides) (counts : Counts) (made : Option (List Run)) (new : Sides) : Type 0 where
-  pub goes : GoesOverTo before scan (counted_sectors counts) old counts made new
-  pub ends : EndsAt deadline (counted_sectors counts) (size old.stack.config (mapped scan.d))
+pub record GoesOverUntil (deadline : Option Deadline) (before : List Bool) (scan : Scanned) (old : Sides) (course : Course) (made : Option (List Run)) (new : Sides) : Type 0 where
+  pub goes : GoesOverTo before scan (counted_sectors course.counts) course.way old course.counts made new
+  pub ends : EndsAt deadline (counted_sectors course.counts) (size old.stack.config (mapped scan.d))
 
 -- the result has that map
 abbrev pub RescuesUntil : Option Deadline → List Bool → Scanned → Sides → Rescued → Sides → Type 0
-RescuesUntil deadline before scan old rescued new = GoesOverUntil deadline before scan old rescued.counts (Some rescued.map) new
+RescuesUntil deadline before scan old rescued new = GoesOverUntil deadline before scan old rescued.course (Some rescued.map) new
 
 -- such a recovery, by the arguments before and after the call
-abbrev pub GoesOverBy : {O L : Type 0} → (O → Device) → (L → Listed) → DevicePass → List Bool → Parties O L → Option (List Run) → Parties O L → Counts → Type 0
-GoesOverBy state told pass before old made new counts = GoesOverUntil pass.deadline before (scanned_by pass) (seen_sides state told old) counts made (seen_sides state told new)
+abbrev pub GoesOverBy : {O L : Type 0} → (O → Device) → (L → Listed) → DevicePass → List Bool → Parties O L → Option (List Run) → Parties O L → Course → Type 0
+GoesOverBy state told pass before old made new course = GoesOverUntil pass.deadline before (scanned_by pass) (seen_sides state told old) course made (seen_sides state told new)
 
 abbrev pub EndsEarlyBy : {O L : Type 0} → (O → Device) → (L → Listed) → Bool → DevicePass → List Bool → Parties O L → Parties O L → RecoveryFault → Type 0
 EndsEarlyBy state told makes_map pass before old new fault = EndsEarly makes_map before (scanned_by pass) (seen_sides state told old) (seen_sides state told new) fault

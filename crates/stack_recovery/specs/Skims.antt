@@ -8,7 +8,7 @@ use Rattle.stack_recovery.specs.Copies.{image_after}
 use Rattle.stack_recovery.specs.Handing.{calls_found}
 use Rattle.stack_recovery.specs.PassPieces.{IsNextPiece, Pass}
 use Rattle.stack_recovery.specs.Skips.{skip_after}
-use Rattle.stack_recovery.specs.Surveys.{Finding, IsPieceSurveyed, PieceRead, again, had, kept, lost, probed, trimmed}
+use Rattle.stack_recovery.specs.Surveys.{Finding, IsPieceSurveyed, PieceRead, again, copied, had, kept, lost, probed, trimmed}
 
 -- a piece, and how many sectors after it are skipped
 pub record Skim : Type 0 where
@@ -22,6 +22,7 @@ is_read (lost fault) = false
 is_read (again fault) = false
 is_read (probed behind bytes) = false
 is_read (trimmed behind fault) = false
+is_read copied = false
 is_read kept = true
 
 -- whether a read of the piece failed
@@ -56,6 +57,7 @@ IsSkimFound p first wanted n (lost fault) skip = ⊥
 IsSkimFound p first wanted n (again fault) skip = (fault ≢ NoMemory) × (next : IsNextPiece p first 128 n) × (skip ≡ min wanted (next.end - (first + n)))
 IsSkimFound p first wanted n (probed behind bytes) skip = ⊥
 IsSkimFound p first wanted n (trimmed behind fault) skip = ⊥
+IsSkimFound p first wanted n copied skip = ⊥
 IsSkimFound p first wanted n kept skip = skip ≡ 0
 
 -- the pieces one after the other, from sector `first` on and with `wanted` sectors to be skipped after a failed read, and later at

@@ -1,6 +1,6 @@
 -- How many sectors a pass in large pieces skips after a read that failed.
 use Rattle.std.specs.Prelude.{ℕ, ◌*◌, ◌/◌, min, max}
-use Rattle.stack_recovery.specs.Surveys.{Finding, again, had, kept, lost, probed, trimmed}
+use Rattle.stack_recovery.specs.Surveys.{Finding, again, copied, had, kept, lost, probed, trimmed}
 
 -- after the first failed read, and after a piece that was read: 64 KiB
 abbrev pub least_skip : ℕ
@@ -21,4 +21,5 @@ skip_after most skip (lost fault) = skip
 skip_after most skip (again fault) = longer_skip most skip
 skip_after most skip (probed behind bytes) = skip
 skip_after most skip (trimmed behind fault) = skip
+skip_after most skip copied = skip
 skip_after most skip kept = skip

@@ -23,10 +23,12 @@ pub data Finding : Type 0 where
   lost : IoFault → Finding
   -- its read ended in this fault, and its sectors are read again by a later pass
   again : IoFault → Finding
-  -- the sectors after so many were read, and their bytes aren't used
+  -- the sectors after so many were read, with these bytes
   probed : ℕ → List ℕ → Finding
   -- so many sectors are unscraped, since those after them are lost by this fault
   trimmed : ℕ → IoFault → Finding
+  -- its sectors were read by earlier pieces of the pass, backwards from the end of their run
+  copied : Finding
   -- its sectors were read before, and aren't read again
   kept : Finding
 
@@ -43,6 +45,7 @@ AnswersFinding w d first n (lost fault) w' = EachBytes w d first n (Err fault) w
 AnswersFinding w d first n (again fault) w' = EachBytes w d first n (Err fault) w'
 AnswersFinding w d first n (probed behind bytes) w' = EachBytes w d (first + behind) (n - behind) (Ok bytes) w'
 AnswersFinding w d first n (trimmed behind fault) w' = EachBytes w d (first + behind) (n - behind) (Err fault) w'
+AnswersFinding w d first n copied w' = w' ≡ w
 AnswersFinding w d first n kept w' = w' ≡ w
 
 -- Sectors are lost only by a read of one sector, or of sectors that are lost together. Running out of memory is no loss.
@@ -55,6 +58,7 @@ MayFind c d first n (lost fault) = MayLose c d first n fault
 MayFind c d first n (again fault) = Unit {0}
 MayFind c d first n (probed behind bytes) = behind < n
 MayFind c d first n (trimmed behind fault) = (behind < n) × MayLose c d (first + behind) (n - behind) fault
+MayFind c d first n copied = 1 ≤ n
 MayFind c d first n kept = 1 ≤ n
 
 -- a mark states whether a sector was read before; past the last mark none was; these n sectors have this mark
@@ -82,6 +86,7 @@ states_found n (lost fault) = replicate n (Some (Lost fault))
 states_found n (again fault) = []
 states_found n (probed behind bytes) = []
 states_found n (trimmed behind fault) = replicate behind (Some (Unscraped fault)) ++ replicate (n - behind) (Some (Lost fault))
+states_found n copied = replicate n None
 states_found n kept = replicate n None
 
 -- the states of the sectors of a piece, and of several pieces

@@ -1,27 +1,31 @@
--- The end of a run of unread sectors, read backwards.
-use Rattle.std.specs.Prelude.{◌≡◌, ℕ, ◌+◌, ◌-◌, ◌<◌, ◌≤◌, List, [], ◌∷◌, ◌++◌, Option, Some, None, Ok, Err}
-use Rattle.block_device.specs.Call.{Call}
-use Rattle.block_device.specs.Device.{Device}
+-- A piece before sectors that were read backwards.
+use Rattle.std.specs.Prelude.{◌≡◌, ℕ, ◌+◌, ◌-◌, ◌<◌, ◌≤◌, true, false, IsTrue, List, length, Ok, Err}
+use Rattle.block_device.specs.Call.{Call, Write}
+use Rattle.block_device.specs.Device.{Device, HasFailed, IsWritten, sectors_of, spliced}
 use Rattle.stack_meaning.specs.declared.fault.IoFault.{IoFault}
 use Rattle.stack_engine.specs.Bytes.{EachBytes}
 use Rattle.stack_engine.specs.Pieces.{PieceGives}
 use Rattle.stack_engine.specs.Stacks.{StackRecord}
 use Rattle.stack_recovery.specs.declared.fault.RecoveryFault.{RecoveryFault}
 use Rattle.stack_recovery.specs.declared.fault.RecoveryFault.TheVariants.{NoMemory, Output}
+use Rattle.stack_recovery.specs.declared.trimming.Behind.{Behind}
+use Rattle.stack_recovery.specs.declared.trimming.Behind.TheVariants.{Copied, Lost}
 use Rattle.stack_recovery.specs.declared.trimming.LostEnd.{LostEnd}
 use Rattle.stack_recovery.specs.Recoveries.{FindsNoMemory}
-use Rattle.stack_recovery.specs.Surveys.{MayLose, PieceRead, probed}
+use Rattle.stack_recovery.specs.Surveys.{MayLose}
 
--- a piece from sector `first` up to sector `low` that was read, as a pass finds it that has come to sector `at`
-abbrev pub probe_read : ℕ → ℕ → ℕ → List ℕ → StackRecord → PieceRead
-probe_read at first low bytes after = record { count = low - at; found = probed (first - at) bytes; after = after }
-
--- The sectors of device d before `end` were read backwards, each piece up to where the one before it began; the last one began at
--- sector `low`, which isn't before sector `at`. They all could be read.
-pub data ProbedTo {D : Type 0} (state : D → Device) (does : D → Call → D → Type 0) (d at end : ℕ) (w : StackRecord) : ℕ → List PieceRead → StackRecord → Type 0 where
-  no_probe : ProbedTo state does d at end w end [] w
-  one_probed : {low : ℕ} {reads : List PieceRead} {v w' : StackRecord} (first : ℕ) (bytes : List ℕ) → ProbedTo state does d at end w low reads v → at ≤ first → first < low → EachBytes v d first (low - first) (Ok bytes) w'
-      → PieceGives state does v (d, first) (low - first) (Ok bytes) w' → ProbedTo state does d at end w first (reads ++ probe_read at first low bytes w' ∷ []) w'
+-- The sectors of device d from sector `first` on and before `low` were read, and written to the same offset of the output device by one
+-- call. They aren't before sector `at`.
+pub record CopiesBehind {D O : Type 0} (state : D → Device) (does : D → Call → D → Type 0) (seen : O → Device) (Did : O → Call → O → Type 0) (d at low : ℕ) (w : StackRecord) (o : O) (w' : StackRecord) (o' : O) (first : ℕ) : Type 0 where
+  pub bytes : List ℕ
+  pub after : at ≤ first
+  pub some : first < low
+  pub answered : EachBytes w d first (low - first) (Ok bytes) w'
+  pub given : PieceGives state does w (d, first) (low - first) (Ok bytes) w'
+  pub written : IsWritten (seen o) first (low - first) true (seen o')
+  pub image : IsTrue (seen o).steady → (seen o').image ≡ spliced (seen o).image first (sectors_of (low - first) bytes)
+  pub unfailed : (seen o').failures ≡ (seen o).failures
+  pub did : Did o (Write first bytes true) o'
 
 -- the sectors before `low` that are lost together, by this fault, and the number of those before them from sector `at` on
 pub record IsLostEnd {D : Type 0} (state : D → Device) (does : D → Call → D → Type 0) (d at low : ℕ) (w w' : StackRecord) (last : LostEnd) : Type 0 where
@@ -31,30 +35,30 @@ pub record IsLostEnd {D : Type 0} (state : D → Device) (does : D → Call → 
   pub answered : EachBytes w d (at + last.before) last.count (Err last.fault) w'
   pub given : PieceGives state does w (d, at + last.before) last.count (Err last.fault) w'
 
--- the last lost ones were found, or all sectors from `at` on could be read
-abbrev pub IsProbeEnd : {D : Type 0} → (D → Device) → (D → Call → D → Type 0) → ℕ → ℕ → ℕ → StackRecord → StackRecord → Option LostEnd → Type 0
-IsProbeEnd state does d at low w w' None = (low ≤ at) × (w' ≡ w)
-IsProbeEnd state does d at low w w' (Some last) = IsLostEnd state does d at low w w' last
+abbrev pub ReadsBehind : {D O : Type 0} → (D → Device) → (D → Call → D → Type 0) → (O → Device) → (O → Call → O → Type 0) → ℕ → ℕ → ℕ → StackRecord → O → StackRecord → O → Behind → Type 0
+ReadsBehind state does seen Did d at low w o w' o' (Copied first) = CopiesBehind state does seen Did d at low w o w' o' first
+ReadsBehind state does seen Did d at low w o w' o' (Lost last) = IsLostEnd state does d at low w w' last × (o' ≡ o)
 
-pub record ProbesBack {D : Type 0} (state : D → Device) (does : D → Call → D → Type 0) (d at end : ℕ) (w w' : StackRecord) (result : Option LostEnd) : Type 0 where
-  pub low : ℕ
-  pub reads : List PieceRead
-  pub left : StackRecord
-  pub probed : ProbedTo state does d at end w low reads left
-  pub ends : IsProbeEnd state does d at low left w' result
-
--- a read ran out of memory
-pub record RunsOutProbing {D : Type 0} (state : D → Device) (does : D → Call → D → Type 0) (d at end : ℕ) (w w' : StackRecord) : Type 0 where
-  pub low : ℕ
-  pub reads : List PieceRead
-  pub left : StackRecord
-  pub probed : ProbedTo state does d at end w low reads left
-  pub read : FindsNoMemory d at left w'
+-- the read ran out of memory
+pub record RunsOutBehind {D : Type 0} (state : D → Device) (does : D → Call → D → Type 0) (d at : ℕ) (w w' : StackRecord) : Type 0 where
+  pub read : FindsNoMemory d at w w'
   pub behind : ℕ
   pub count : ℕ
   pub fault : IoFault
-  pub given : PieceGives state does left (d, at + behind) count (Err fault) w'
+  pub given : PieceGives state does w (d, at + behind) count (Err fault) w'
 
-abbrev pub StopsProbing : {D : Type 0} → (D → Device) → (D → Call → D → Type 0) → ℕ → ℕ → ℕ → StackRecord → StackRecord → RecoveryFault → Type 0
-StopsProbing state does d at end w w' NoMemory = RunsOutProbing state does d at end w w'
-StopsProbing state does d at end w w' Output = ⊥
+-- the write failed
+pub record FailsBehind {D O : Type 0} (state : D → Device) (does : D → Call → D → Type 0) (seen : O → Device) (Did : O → Call → O → Type 0) (d at : ℕ) (w : StackRecord) (o : O) (w' : StackRecord) (o' : O) : Type 0 where
+  pub behind : ℕ
+  pub count : ℕ
+  pub bytes : List ℕ
+  pub answered : EachBytes w d (at + behind) count (Ok bytes) w'
+  pub given : PieceGives state does w (d, at + behind) count (Ok bytes) w'
+  pub written : IsWritten (seen o) (at + behind) count false (seen o')
+  pub failed : HasFailed (seen o) (seen o')
+  pub sure : IsTrue (seen o).never_fails → ⊥
+  pub did : Did o (Write (at + behind) bytes false) o'
+
+abbrev pub StopsBehind : {D O : Type 0} → (D → Device) → (D → Call → D → Type 0) → (O → Device) → (O → Call → O → Type 0) → ℕ → ℕ → StackRecord → O → StackRecord → O → RecoveryFault → Type 0
+StopsBehind state does seen Did d at w o w' o' NoMemory = RunsOutBehind state does d at w w' × (o' ≡ o)
+StopsBehind state does seen Did d at w o w' o' Output = FailsBehind state does seen Did d at w o w' o'

@@ -1,5 +1,5 @@
 //! When a pass over a mapped device ends.
-ghost use Rattle.std.specs.Prelude.{◌≡◌, ◌≤◌, true, IsTrue};
+ghost use Rattle.std.specs.Prelude.{◌≡◌, ◌≤◌, IsTrue};
 ghost use Rattle.stack_recovery.specs.Deadlines.{EndsAt, MayEnd};
 
 use device_adapters::Progress;
@@ -23,11 +23,13 @@ pub struct FirstPass {
 }
 
 /// A pass over a mapped device by single sectors: to its last sector, or up to a deadline. With `no_scrape` it reads a run of
-/// unread sectors only from its beginning to its first lost sector, and from its last lost sector to its end.
+/// unread sectors only from its beginning to its first lost sector, and from its last lost sector to its end. A run that begins at
+/// sector `turned`, before which an earlier pass ended, it only reads from its last lost sector to its end; 0 if there is none.
 #[derive(Clone, Copy)]
 pub struct DevicePass {
     pub device: DevId,
     pub no_scrape: bool,
+    pub turned: u64,
     pub deadline: Option<Deadline>,
 }
 
@@ -61,23 +63,4 @@ pub(crate) fn pass_end<P: Progress>(
         return at;
     }
     sectors
-}
-
-/// Returns the sector before which such a pass ends that may be about to read backwards (`turning`): it does so before it ends early.
-pub(crate) fn trim_end<P: Progress>(
-    deadline: Option<Deadline>,
-    turning: bool,
-    at: u64,
-    sectors: u64,
-    progress: &mut P,
-) -> u64
-    requires { at ≤ sectors }
-    ensures few { result ≤ sectors }
-    ensures ends { result ≤ at → EndsAt deadline at sectors }
-    ensures trimmed { turning ≡ true → sectors ≤ result }
-{
-    if turning {
-        return sectors;
-    }
-    pass_end(deadline, at, sectors, progress)
 }

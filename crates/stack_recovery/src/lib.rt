@@ -19,6 +19,7 @@ mod skip;
 mod stretch;
 mod tally;
 mod trimming;
+mod way;
 
 pub use deadline::{Deadline, DevicePass, FirstPass};
 pub use discard::Discard;
@@ -28,7 +29,8 @@ pub use listing::{KeptRuns, Listing, NoListing};
 pub use lost_run::{Loss, LostRun, is_same};
 pub use piece::{Piece, piece_at};
 pub use piece_limit::PieceLimit;
-pub use recovery::Counts;
+pub use recovery::{Counts, Course};
 pub use rescued::{Rescued, rescue};
 pub use skimming::{Skimmed, skim};
 pub use skip::{LEAST_SKIP, most_skip};
+pub use way::Way;

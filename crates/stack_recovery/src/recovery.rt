@@ -9,7 +9,7 @@ ghost use Rattle.stack_recovery.specs.Handing.{HandsOverPart, HandsOverUntil};
 ghost use Rattle.stack_recovery.specs.LeafReads.{CopiesOver};
 ghost use Rattle.stack_recovery.specs.Recoveries.{EndsEarlyBy, GoesOverBy, AreLossesNoted, AreMarksNoted, counted_sectors, parties};
 
-use crate::deadline::{DevicePass, trim_end};
+use crate::deadline::{DevicePass, pass_end};
 use crate::fault::RecoveryFault;
 use crate::listing::Listing;
 use crate::losing::{lose_run, lost_run, note_end, tell_end};
@@ -18,7 +18,8 @@ use crate::piece::piece_at;
 use crate::skimming::check_memory;
 use crate::stretch::next_stretch;
 use crate::tally::Tally;
-use crate::trimming::lost_end;
+use crate::trimming::{Behind, read_behind};
+use crate::way::{Way, is_copied, is_forward, low_of, way_kept, way_lost, way_probed, way_trimmed};
 use block_device::BlockDev;
 use device_adapters::Progress;
 use rescue_map::{Ahead, Map};
@@ -30,6 +31,13 @@ pub struct Counts {
     pub read: u64,
     pub lost: u64,
     pub untried: u64,
+}
+
+/// The counts of a pass, and the way that it would go on.
+#[derive(Clone, Copy)]
+pub struct Course {
+    pub counts: Counts,
+    pub way: Way,
 }
 
 /// The size of the longest piece in bytes.
@@ -45,7 +53,7 @@ pub(crate) fn go_over<D: BlockDev, O: BlockDev, L: Listing, P: Progress>(
     noted: &mut Option<Map>,
     listing: &mut L,
     progress: &mut P,
-) -> Result<Counts, RecoveryFault>
+) -> Result<Course, RecoveryFault>
     requires device { pass.device.0 < length stack.old.config.devices }
     requires fits { length (marks_ahead ahead) ≡ size stack.old.config (mapped pass.device.0) }
     requires room { size stack.old.config (mapped pass.device.0) ≤ (O.state out.old).size }
@@ -56,7 +64,7 @@ pub(crate) fn go_over<D: BlockDev, O: BlockDev, L: Listing, P: Progress>(
     ensures noted { OnOk result (is_some noted.new ≡ is_some noted.old) }
     ensures handed { IfOk result (HandsOverUntil (DeviceDoes O.state O.does) pass (marks_ahead ahead.entry) (parties stack.old out.old listing.old) noted.new (parties stack.new out.new listing.new)) }
     ensures stopped { IfErr result (HandsOverPart (DeviceDoes O.state O.does) (marks_ahead ahead.entry) pass.device.0 (parties stack.old out.old listing.old) (parties stack.new out.new listing.new)) }
-    ensures called { CopiesOver D.state D.does (DeviceDoes O.state O.does) (marks_ahead ahead.entry) pass.device.0 stack.old out.old stack.new out.new result (λ counts. counted_sectors counts) }
+    ensures called { CopiesOver D.state D.does (DeviceDoes O.state O.does) (marks_ahead ahead.entry) pass.device.0 stack.old out.old stack.new out.new result (λ course. counted_sectors course.counts) }
 {
     // The call provides the bound on a device's sectors.
     let _fits = out.sectors();
@@ -83,7 +91,7 @@ fn go_over_by<D: BlockDev, O: BlockDev, L: Listing, P: Progress>(
     listing: &mut L,
     progress: &mut P,
     room: &mut [u8],
-) -> Result<Counts, RecoveryFault>
+) -> Result<Course, RecoveryFault>
     requires device { pass.device.0 < length stack.old.config.devices }
     requires fits { length (marks_ahead ahead) ≡ size stack.old.config (mapped pass.device.0) }
     requires room { size stack.old.config (mapped pass.device.0) ≤ (O.state out.old).size }
@@ -96,30 +104,28 @@ fn go_over_by<D: BlockDev, O: BlockDev, L: Listing, P: Progress>(
     ensures noted { OnOk result (is_some noted.new ≡ is_some noted.old) }
     ensures handed { IfOk result (HandsOverUntil (DeviceDoes O.state O.does) pass (marks_ahead ahead.entry) (parties stack.old out.old listing.old) noted.new (parties stack.new out.new listing.new)) }
     ensures stopped { IfErr result (HandsOverPart (DeviceDoes O.state O.does) (marks_ahead ahead.entry) pass.device.0 (parties stack.old out.old listing.old) (parties stack.new out.new listing.new)) }
-    ensures called { CopiesOver D.state D.does (DeviceDoes O.state O.does) (marks_ahead ahead.entry) pass.device.0 stack.old out.old stack.new out.new result (λ counts. counted_sectors counts) }
+    ensures called { CopiesOver D.state D.does (DeviceDoes O.state O.does) (marks_ahead ahead.entry) pass.device.0 stack.old out.old stack.new out.new result (λ course. counted_sectors course.counts) }
 {
     let d = pass.device;
     let sectors = stack.config().sectors(d);
     let mut tally = Tally::new();
-    let mut turning = false;
+    let mut way = Way::Forward;
     let mut at = 0;
-    'pieces: while at < trim_end(pass.deadline, turning, at, sectors, progress) {
+    'pieces: while at < pass_end(pass.deadline, at, sectors, progress) {
         let run = next_stretch(&mut ahead);
         if run.had {
             note(noted, run.count, true, false)?;
             tally.close(listing);
             ahead.pass(run.count);
             at += run.count;
-            turning = false;
-        } else if turning {
-            turning = false;
-            if let Some(last) = lost_end(stack, d, at, at + run.count, room)? {
-                note_end(noted, last)?;
-                tell_end(&mut tally, listing, at, last);
-                ahead.pass(last.before + last.count);
-                at += last.before + last.count;
-            }
-        } else {
+            way = way_kept(pass.turned, at);
+        } else if is_copied(way, at) {
+            note(noted, run.count, true, false)?;
+            tally.close(listing);
+            ahead.pass(run.count);
+            at += run.count;
+            way = Way::Forward;
+        } else if is_forward(way) {
             tell(progress, at, sectors);
             let piece = piece_at(stack.config(), d, at, at + run.count, 1);
             let count = u64::from(piece.count);
@@ -138,12 +144,25 @@ fn go_over_by<D: BlockDev, O: BlockDev, L: Listing, P: Progress>(
                     lose_run(noted, &mut tally, listing, lost)?;
                     ahead.pass(count);
                     at += count;
-                    turning = pass.no_scrape;
+                    way = way_lost(pass.no_scrape);
+                }
+            }
+        } else {
+            let low = low_of(way, at + run.count);
+            match read_behind(stack, d, at, low, out, room)? {
+                Behind::Copied(first) => way = way_probed(way, first, low),
+                Behind::Lost(last) => {
+                    note_end(noted, last)?;
+                    tell_end(&mut tally, listing, at, last);
+                    ahead.pass(last.before + last.count);
+                    at += last.before + last.count;
+                    way = way_trimmed(way);
                 }
             }
         }
     }
-    Ok(tally.finish(listing, at))
+    let counts = tally.finish(listing, at);
+    Ok(Course { counts, way })
 }
 
 /// Reports progress in bytes.

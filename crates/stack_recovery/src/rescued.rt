@@ -10,28 +10,30 @@ ghost use Rattle.stack_recovery.specs.Recoveries.{EndsRescue, RescuesBy, counted
 use crate::deadline::DevicePass;
 use crate::fault::RecoveryFault;
 use crate::listing::Listing;
-use crate::recovery::{Counts, go_over};
+use crate::recovery::{Course, go_over};
 use block_device::BlockDev;
 use device_adapters::Progress;
 use rescue_map::{Ahead, Map};
 use stack_engine::Stack;
 use std::alloc::Global;
 
-/// The counts of sectors that were read, now or before, and that are lost; and the map of them.
+/// The counts of sectors that were read, now or before, and that are lost, and the way that the pass would go on; and the map of these
+/// sectors.
 #[derive(Drop)]
 pub struct Rescued {
-    pub counts: Counts,
+    pub course: Course,
     pub map: Map,
 }
 
 /// Reads the sectors of a mapped device that the map doesn't mark as read, by single sectors or those that are lost together, and reports
-/// each longest run of sectors that aren't recovered by one fault. Each readable piece is written to the same offset of `out`, by one call, in
-/// order, and nothing is called after a failed write. Lost sectors are left unchanged there.
+/// each longest run of sectors that aren't recovered by one fault. Each readable piece is written to the same offset of `out`, by one call, as
+/// soon as it is read, and nothing is called after a failed write. Lost sectors are left unchanged there.
 ///
-/// With `no_scrape` each longest run of such sectors is read from its beginning up to the first lost one, and from its end backwards up to the
-/// last lost one. The sectors between these are reported as a loss `Unscraped`.
+/// With `no_scrape` each longest run of such sectors is read from its beginning up to the first lost one, and then from its end backwards up to
+/// the last lost one. The sectors between these are reported as a loss `Unscraped`.
 ///
-/// At its deadline the pass ends. The counts and the map are then of the sectors up to there.
+/// At its deadline the pass ends. The counts and the map are then of the sectors up to there. If the pass was about to read a run backwards, or
+/// had begun to, its way says so: a later pass goes on by it if `turned` of that pass is where this one ended.
 ///
 /// # Errors
 ///
@@ -54,13 +56,13 @@ pub fn rescue<D: BlockDev, O: BlockDev, L: Listing, P: Progress>(
     ensures err { IfErr result (EndsRescue O.state L.told pass (marks map.now) (parties stack.old out.old listing.old) (parties stack.new out.new listing.new)) }
     ensures handed { IfOk result (RescueHands (DeviceDoes O.state O.does) (marks map.now) pass.device.0 (parties stack.old out.old listing.old) (parties stack.new out.new listing.new)) }
     ensures stopped { IfErr result (HandsOverPart (DeviceDoes O.state O.does) (marks map.now) pass.device.0 (parties stack.old out.old listing.old) (parties stack.new out.new listing.new)) }
-    ensures called { CopiesOver D.state D.does (DeviceDoes O.state O.does) (marks map.now) pass.device.0 stack.old out.old stack.new out.new result (λ rescued. counted_sectors rescued.counts) }
+    ensures called { CopiesOver D.state D.does (DeviceDoes O.state O.does) (marks map.now) pass.device.0 stack.old out.old stack.new out.new result (λ rescued. counted_sectors rescued.course.counts) }
 {
     let mut noted = Some(Map::new(alloc));
     let ahead = Ahead::of_map(map);
-    let counts = go_over(stack, pass, out, ahead, &mut noted, listing, progress)?;
+    let course = go_over(stack, pass, out, ahead, &mut noted, listing, progress)?;
     match noted {
-        Some(map) => Ok(Rescued { counts, map }),
+        Some(map) => Ok(Rescued { course, map }),
         None => Err(RecoveryFault::NoMemory),
     }
 }

@@ -1,8 +1,9 @@
-//! The lost sectors at the end of a run of sectors that weren't read.
-ghost use Rattle.std.specs.Prelude.{◌≡◌, ◌+◌, ◌-◌, ◌≤◌, ◌<◌, length, IfErr, IfOk};
+//! A run of sectors that weren't read, from its end.
+ghost use Rattle.std.specs.Prelude.{◌≡◌, ◌+◌, ◌-◌, ◌≤◌, ◌<◌, length, IsTrue, IfErr, IfOk};
+ghost use Rattle.block_device.specs.Call.{DeviceDoes};
 ghost use Rattle.stack_rules.specs.Names.{mapped, size};
 ghost use Rattle.stack_recovery.specs.Alike.{AreAlike};
-ghost use Rattle.stack_recovery.specs.Trims.{ProbesBack, StopsProbing};
+ghost use Rattle.stack_recovery.specs.Trims.{ReadsBehind, StopsBehind};
 
 use crate::fault::RecoveryFault;
 use crate::piece::piece_at;
@@ -39,42 +40,51 @@ fn last_piece(config: &Config, d: DevId, first: u64, end: u64) -> u64
     at
 }
 
-/// Reads the pieces before sector `end` backwards, each of sectors that are lost together, up to the first that fails, but none
-/// before sector `at`. Returns it, or `None` if all can be read.
+/// What a read before sectors that were read backwards found: sectors from one on that were copied, or the last lost sectors of the run.
+#[derive(Clone, Copy)]
+pub(crate) enum Behind {
+    Copied(u64),
+    Lost(LostEnd),
+}
+
+/// Reads the piece before sector `low`, of sectors that are lost together, but none before sector `at`. If it can be read, it is written
+/// to the same offset of `out`.
 ///
 /// # Errors
 ///
-/// `NoMemory` if an allocation was refused.
-pub(crate) fn lost_end<D: BlockDev>(
+/// - `NoMemory` if an allocation was refused.
+/// - `Output` if `out` failed.
+pub(crate) fn read_behind<D: BlockDev, O: BlockDev>(
     stack: &mut Stack<D>,
     d: DevId,
     at: u64,
-    end: u64,
+    low: u64,
+    out: &mut O,
     room: &mut [u8],
-) -> Result<Option<LostEnd>, RecoveryFault>
+) -> Result<Behind, RecoveryFault>
     requires device { d.0 < length stack.old.config.devices }
-    requires inside { end ≤ size stack.old.config (mapped d.0) }
+    requires inside { (at < low) × (low ≤ size stack.old.config (mapped d.0)) }
+    requires room { (size stack.old.config (mapped d.0) ≤ (O.state out.old).size) × IsTrue (O.state out.old).may_write }
     requires buffer { length room.old ≡ 65536 }
-    ensures ok { IfOk result (ProbesBack D.state D.does d.0 at end stack.old stack.new) }
-    ensures err { IfErr result (StopsProbing D.state D.does d.0 at end stack.old stack.new) }
+    ensures ok { IfOk result (ReadsBehind D.state D.does O.state (DeviceDoes O.state O.does) d.0 at low stack.old out.old stack.new out.new) }
+    ensures err { IfErr result (StopsBehind D.state D.does O.state (DeviceDoes O.state O.does) d.0 at stack.old out.old stack.new out.new) }
 {
-    let mut end = end;
-    'pieces: while at < end {
-        let first = last_piece(stack.config(), d, at, end);
-        let count = end - first;
-        let bytes = &mut room[..count as usize * 512];
-        match stack.read_bytes(d, first, bytes) {
-            Ok(()) => end = first,
-            Err(fault) => {
-                check_memory(fault)?;
-                let before = first - at;
-                return Ok(Some(LostEnd {
-                    before,
-                    count,
-                    fault,
-                }));
-            }
+    let first = last_piece(stack.config(), d, at, low);
+    let count = low - first;
+    let bytes = &mut room[..count as usize * 512];
+    match stack.read_bytes(d, first, bytes) {
+        Ok(()) => {
+            out.write(first, bytes)?;
+            Ok(Behind::Copied(first))
+        }
+        Err(fault) => {
+            check_memory(fault)?;
+            let before = first - at;
+            Ok(Behind::Lost(LostEnd {
+                before,
+                count,
+                fault,
+            }))
         }
     }
-    Ok(None)
 }

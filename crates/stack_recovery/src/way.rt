@@ -1,0 +1,86 @@
+//! The way that a pass by single sectors goes on.
+ghost use Rattle.std.specs.Prelude.{◌≡◌};
+ghost use Rattle.stack_recovery.specs.PassPieces.{way_kept, way_lost, way_probed, way_trimmed};
+ghost use Rattle.stack_recovery.specs.Ways.{is_copied, is_forward, low_of};
+
+/// The way that a pass goes on from the sector to which it has come.
+#[derive(Clone, Copy, Debug, PartialEq, Eq)]
+pub enum Way {
+    /// It reads the next sectors.
+    Forward,
+    /// It reads the run that begins there backwards, from its end.
+    Turned,
+    /// It reads that run backwards: from `low` up to `end`, the end of the run, the sectors were read and copied.
+    Backward { low: u64, end: u64 },
+}
+
+/// Returns whether the pass reads the next sectors.
+pub(crate) fn is_forward(way: Way) -> bool
+    ensures { result ≡ is_forward way }
+{
+    match way {
+        Way::Forward => true,
+        _ => false,
+    }
+}
+
+/// Returns whether the pass has copied the rest of its run, from sector `at` on.
+pub(crate) fn is_copied(way: Way, at: u64) -> bool
+    ensures { result ≡ is_copied way at }
+{
+    match way {
+        Way::Backward { low, .. } => low == at,
+        _ => false,
+    }
+}
+
+/// Returns the sector before which a pass reads backwards that hasn't begun to, or has come down to there, in a run that ends at `end`.
+pub(crate) fn low_of(way: Way, end: u64) -> u64
+    ensures { result ≡ low_of way end }
+{
+    match way {
+        Way::Backward { low, .. } => low,
+        _ => end,
+    }
+}
+
+/// Returns the way after the sectors from `first` on and before `next` were read backwards.
+pub(crate) fn way_probed(way: Way, first: u64, next: u64) -> Way
+    ensures { result ≡ way_probed way first next }
+{
+    match way {
+        Way::Backward { end, .. } => Way::Backward { low: first, end },
+        _ => Way::Backward {
+            low: first,
+            end: next,
+        },
+    }
+}
+
+/// Returns the way after the last lost sectors of a run.
+pub(crate) fn way_trimmed(way: Way) -> Way
+    ensures { result ≡ way_trimmed way }
+{
+    match way {
+        Way::Backward { low, end } => Way::Backward { low, end },
+        _ => Way::Forward,
+    }
+}
+
+/// Returns the way after a lost sector.
+pub(crate) fn way_lost(no_scrape: bool) -> Way
+    ensures { result ≡ way_lost no_scrape }
+{
+    if no_scrape { Way::Turned } else { Way::Forward }
+}
+
+/// Returns the way after sectors that were read before the pass, up to sector `at`.
+pub(crate) fn way_kept(turned: u64, at: u64) -> Way
+    ensures { result ≡ way_kept turned at }
+{
+    if at == turned {
+        Way::Turned
+    } else {
+        Way::Forward
+    }
+}
