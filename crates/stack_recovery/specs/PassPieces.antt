@@ -1,5 +1,5 @@
 -- Which pieces a pass over a mapped device reads.
-use Rattle.std.specs.Prelude.{◌≡◌, ◌⊎◌, ℕ, ◌+◌, ◌-◌, ◌==◌, ◌≤◌, Bool, true, false, List, [], ◌∷◌, length, if◌then◌else◌}
+use Rattle.std.specs.Prelude.{◌≡◌, ◌⊎◌, ℕ, ◌+◌, ◌-◌, ◌==◌, ◌<◌, ◌≤◌, Bool, true, false, List, [], ◌∷◌, length, if◌then◌else◌}
 use Rattle.std.specs.List.{slice_index_or}
 use Rattle.stack_rules.specs.Names.{mapped, size}
 use Rattle.stack_rules.specs.Records.{Configuration}
@@ -106,3 +106,9 @@ way_from scan way first (r ∷ more) = way_from scan (way_found scan way first r
 -- the pieces of a whole pass by single sectors
 abbrev pub ArePassPieces : Scanned → Pass → List PieceRead → Type 0
 ArePassPieces scan p reads = AreInPieces scan p 0 Forward reads
+
+-- the sectors that a pass has read backwards, if it has, lie behind the one that it has come to, and inside the device
+abbrev pub IsWayInside : ℕ → Way → ℕ → Type 0
+IsWayInside at Forward sectors = Unit {0}
+IsWayInside at Turned sectors = Unit {0}
+IsWayInside at (Backward low end) sectors = (at ≤ low) × (low < end) × (end ≤ sectors)

@@ -25,7 +25,7 @@ use Rattle.stack_recovery.specs.declared.way.Way.TheVariants.{Forward}
 use Rattle.stack_recovery.specs.Copies.{IsCopied}
 use Rattle.stack_recovery.specs.Deadlines.{EndsAt}
 use Rattle.stack_recovery.specs.Listings.{Listed, Tells}
-use Rattle.stack_recovery.specs.PassPieces.{ArePassPieces, Scanned, pass_over, way_from}
+use Rattle.stack_recovery.specs.PassPieces.{ArePassPieces, IsWayInside, Scanned, pass_over, way_from}
 use Rattle.stack_recovery.specs.Surveys.{IsSurveyOver, PieceRead, SectorState, all_states}
 
 -- the device of a pass, whether it doesn't scrape, and where an earlier pass had turned
@@ -145,6 +145,7 @@ pub record GoesOverTo (before : List Bool) (scan : Scanned) (end : ℕ) (way : W
   pub whole : length (all_states reads) ≡ end
   pub pieces : ArePassPieces scan (pass_over old.stack.config scan.d before) reads
   pub goes_on : way ≡ way_from scan Forward 0 reads
+  pub inside : IsWayInside end way (size old.stack.config (mapped scan.d))
   pub copied : IsCopied reads old.out new.out
   pub unfailed : new.out.failures ≡ old.out.failures
   pub printed : Tells old.printed new.printed (runs_of is_same_loss 0 (all_states reads))

@@ -1,5 +1,6 @@
 -- How far a pass has read a run backwards.
 use Rattle.std.specs.Prelude.{ℕ, ◌==◌, Bool, true, false}
+use Rattle.stack_recovery.specs.PassPieces.{way_kept}
 use Rattle.stack_recovery.specs.declared.way.Way.{Way}
 use Rattle.stack_recovery.specs.declared.way.Way.TheVariants.{Backward, Forward, Turned}
 
@@ -17,3 +18,8 @@ is_copied other at = false
 abbrev pub low_of : Way → ℕ → ℕ
 low_of (Backward low top) end = low
 low_of other end = end
+
+-- the way after sectors that were read before the pass, or backwards by it
+abbrev pub way_past : Way → ℕ → ℕ → Way
+way_past (Backward low end) turned at = Forward
+way_past other turned at = way_kept turned at

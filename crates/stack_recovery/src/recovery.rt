@@ -19,7 +19,7 @@ use crate::skimming::check_memory;
 use crate::stretch::next_stretch;
 use crate::tally::Tally;
 use crate::trimming::{Behind, read_behind};
-use crate::way::{Way, is_copied, is_forward, low_of, way_kept, way_lost, way_probed, way_trimmed};
+use crate::way::{Way, is_forward, is_past, low_of, way_lost, way_past, way_probed, way_trimmed};
 use block_device::BlockDev;
 use device_adapters::Progress;
 use rescue_map::{Ahead, Map};
@@ -113,18 +113,12 @@ fn go_over_by<D: BlockDev, O: BlockDev, L: Listing, P: Progress>(
     let mut at = 0;
     'pieces: while at < pass_end(pass.deadline, at, sectors, progress) {
         let run = next_stretch(&mut ahead);
-        if run.had {
+        if is_past(run.had, way, at) {
             note(noted, run.count, true, false)?;
             tally.close(listing);
             ahead.pass(run.count);
             at += run.count;
-            way = way_kept(pass.turned, at);
-        } else if is_copied(way, at) {
-            note(noted, run.count, true, false)?;
-            tally.close(listing);
-            ahead.pass(run.count);
-            at += run.count;
-            way = Way::Forward;
+            way = way_past(way, pass.turned, at);
         } else if is_forward(way) {
             tell(progress, at, sectors);
             let piece = piece_at(stack.config(), d, at, at + run.count, 1);

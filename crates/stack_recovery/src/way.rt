@@ -1,7 +1,7 @@
 //! The way that a pass by single sectors goes on.
-ghost use Rattle.std.specs.Prelude.{◌≡◌};
-ghost use Rattle.stack_recovery.specs.PassPieces.{way_kept, way_lost, way_probed, way_trimmed};
-ghost use Rattle.stack_recovery.specs.Ways.{is_copied, is_forward, low_of};
+ghost use Rattle.std.specs.Prelude.{◌≡◌, ◌||◌};
+ghost use Rattle.stack_recovery.specs.PassPieces.{way_lost, way_probed, way_trimmed};
+ghost use Rattle.stack_recovery.specs.Ways.{is_copied, is_forward, low_of, way_past};
 
 /// The way that a pass goes on from the sector to which it has come.
 #[derive(Clone, Copy, Debug, PartialEq, Eq)]
@@ -24,13 +24,13 @@ pub(crate) fn is_forward(way: Way) -> bool
     }
 }
 
-/// Returns whether the pass has copied the rest of its run, from sector `at` on.
-pub(crate) fn is_copied(way: Way, at: u64) -> bool
-    ensures { result ≡ is_copied way at }
+/// Returns whether the next sectors, from sector `at` on, were read before the pass (`had`), or backwards by it.
+pub(crate) fn is_past(had: bool, way: Way, at: u64) -> bool
+    ensures { result ≡ (had || is_copied way at) }
 {
     match way {
-        Way::Backward { low, .. } => low == at,
-        _ => false,
+        Way::Backward { low, .. } => had || low == at,
+        _ => had,
     }
 }
 
@@ -74,13 +74,18 @@ pub(crate) fn way_lost(no_scrape: bool) -> Way
     if no_scrape { Way::Turned } else { Way::Forward }
 }
 
-/// Returns the way after sectors that were read before the pass, up to sector `at`.
-pub(crate) fn way_kept(turned: u64, at: u64) -> Way
-    ensures { result ≡ way_kept turned at }
+/// Returns the way after the sectors before sector `at`, which were read before the pass, or backwards by it.
+pub(crate) fn way_past(way: Way, turned: u64, at: u64) -> Way
+    ensures { result ≡ way_past way turned at }
 {
-    if at == turned {
-        Way::Turned
-    } else {
-        Way::Forward
+    match way {
+        Way::Backward { .. } => Way::Forward,
+        _ => {
+            if at == turned {
+                Way::Turned
+            } else {
+                Way::Forward
+            }
+        }
     }
 }
