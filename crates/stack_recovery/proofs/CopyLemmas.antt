@@ -1,10 +1,10 @@
 -- A device to which sectors are copied.
-use Rattle.std.proofs.Common.{◌≡◌, ℕ, ◌+◌, Bool, IsTrue, List, [], ◌∷◌, ◌++◌, length, refl, sym, ap, ◌∙◌, subst, arith}
+use Rattle.std.proofs.Common.{◌≡◌, ℕ, ◌+◌, ◌-◌, Bool, true, IsTrue, List, [], ◌∷◌, ◌++◌, length, refl, sym, ap, ◌∙◌, subst, arith}
 use Rattle.std.proofs.lemmas.List.{length-append}
 use Rattle.block_device.specs.Device.{Device, IsSameDevice, IsWritten, sectors_of, spliced}
 use Rattle.stack_engine.specs.Stacks.{StackRecord}
 use Rattle.stack_recovery.specs.Copies.{IsCopied, copied_image, image_after}
-use Rattle.stack_recovery.specs.Surveys.{had, PieceRead, all_states, states_of}
+use Rattle.stack_recovery.specs.Surveys.{had, probed, PieceRead, all_states, states_of}
 
 copied_image-push : (first : ℕ) (reads : List PieceRead) (r : PieceRead) (image : List (List ℕ))
     → copied_image first (reads ++ r ∷ []) image ≡ image_after (first + length (all_states reads)) r.found r.count (copied_image first reads image)
@@ -42,5 +42,22 @@ copied-had reads n at k bytes after ok old mid new here count p w image =
           ∙ ap (λ (m : ℕ). spliced mid.image at (sectors_of m bytes)) count
           ∙ ap (λ (i : List (List ℕ)). spliced i at (sectors_of n bytes)) (p.image steady)
           ∙ ap (λ (s : ℕ). spliced (copied_image 0 reads old.image) s (sectors_of n bytes)) from
+          ∙ sym (copied_image-push 0 reads r old.image);
+    }
+
+-- a piece behind the sectors so far that is written where it is stored
+pub copied-behind : (reads : List PieceRead) (n at behind m : ℕ) (bytes : List ℕ) (after : StackRecord) (old mid new : Device) → at ≡ length (all_states reads) → m ≡ n - behind → IsCopied reads old mid
+    → IsWritten mid (at + behind) m true new → (IsTrue mid.steady → new.image ≡ spliced mid.image (at + behind) (sectors_of m bytes))
+    → IsCopied (reads ++ (record { count = n; found = probed behind bytes; after = after }) ∷ []) old new
+copied-behind reads n at behind m bytes after old mid new here count p w image =
+    let r : PieceRead = record { count = n; found = probed behind bytes; after = after } in
+    let from : at ≡ 0 + length (all_states reads) = omega (arith, here) in
+    record {
+      same = same-device p.same w.same;
+      image = λ steady.
+          image (subst IsTrue (sym p.same.steady) steady)
+          ∙ ap (λ (k : ℕ). spliced mid.image (at + behind) (sectors_of k bytes)) count
+          ∙ ap (λ (i : List (List ℕ)). spliced i (at + behind) (sectors_of (n - behind) bytes)) (p.image steady)
+          ∙ ap (λ (s : ℕ). spliced (copied_image 0 reads old.image) (s + behind) (sectors_of (n - behind) bytes)) from
           ∙ sym (copied_image-push 0 reads r old.image);
     }

@@ -9,7 +9,7 @@ use Rattle.stack_engine.specs.Healing.{HasNoParity}
 use Rattle.stack_engine.specs.Stacks.{StackRecord}
 use Rattle.stack_recovery.specs.PassLaws.{FailuresAreFew, failed_reads}
 use Rattle.stack_recovery.specs.Skims.{marks_of}
-use Rattle.stack_recovery.specs.Surveys.{AnswersFinding, Finding, again, had, kept, lost, probed, trimmed}
+use Rattle.stack_recovery.specs.Surveys.{AnswersFinding, Finding, again, copied, had, kept, lost, probed, trimmed}
 
 found-config : (d first : ℕ) (w : StackRecord) (n : ℕ) (found : Finding) (w' : StackRecord) → AnswersFinding w d first n found w' → w'.config ≡ w.config
 found-config d first w n (had bytes) w' a = a.any.config
@@ -17,6 +17,7 @@ found-config d first w n (lost fault) w' a = a.any.config
 found-config d first w n (again fault) w' a = a.any.config
 found-config d first w n (probed behind bytes) w' a = a.any.config
 found-config d first w n (trimmed behind fault) w' a = a.any.config
+found-config d first w n copied w' a = ap (λ (s : StackRecord). s.config) a
 found-config d first w n kept w' a = ap (λ (s : StackRecord). s.config) a
 
 one-more : (n : ℕ) → n ≤ n + 1
@@ -50,6 +51,7 @@ piece-fails d first w n (lost fault) w' none a = omega (arith, ap sum (a.any.fai
 piece-fails d first w n (again fault) w' none a = omega (arith, ap sum (a.any.fails (λ met. none)), by-few fault (failures_of w.leaves))
 piece-fails d first w n (probed behind bytes) w' none a = omega (arith, ap sum (a.any.fails (λ met. none)))
 piece-fails d first w n (trimmed behind fault) w' none a = omega (arith, ap sum (a.any.fails (λ met. none)), by-few fault (failures_of w.leaves))
+piece-fails d first w n copied w' none a = omega (arith, ap (λ (s : StackRecord). sum (failures_of s.leaves)) a)
 piece-fails d first w n kept w' none a = omega (arith, ap (λ (s : StackRecord). sum (failures_of s.leaves)) a)
 
 pub failures-are-few : FailuresAreFew

@@ -15,4 +15,5 @@ mod StretchLemmas
 mod SurveyLemmas
 mod TrimLemmas
 mod UnderwayLemmas
+mod WayLemmas
 mod VerityLossLemmas

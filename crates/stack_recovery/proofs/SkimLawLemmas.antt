@@ -4,7 +4,7 @@ use Rattle.stack_recovery.specs.PassLaws.{IsLongestPiece, SkimmedPiecesAreLonges
 use Rattle.stack_recovery.specs.PassPieces.{Pass}
 use Rattle.stack_recovery.specs.Skims.{AreSkims, IsSkimFound, marks_of}
 use Rattle.stack_recovery.specs.Skips.{skip_after}
-use Rattle.stack_recovery.specs.Surveys.{Finding, again, had, kept, lost, probed, trimmed}
+use Rattle.stack_recovery.specs.Surveys.{Finding, again, copied, had, kept, lost, probed, trimmed}
 
 longest-found : (p : Pass) (first wanted n : ℕ) (found : Finding) (skip : ℕ) → IsSkimFound p first wanted n found skip → IsLongestPiece p first n found
 longest-found p first wanted n (had bytes) skip h = h.0
@@ -12,6 +12,7 @@ longest-found p first wanted n (lost fault) skip h = absurd h
 longest-found p first wanted n (again fault) skip h = h.1
 longest-found p first wanted n (probed behind bytes) skip h = absurd h
 longest-found p first wanted n (trimmed behind fault) skip h = absurd h
+longest-found p first wanted n copied skip h = absurd h
 longest-found p first wanted n kept skip h = tt
 
 pub skimmed-longest : SkimmedPiecesAreLongest
@@ -26,6 +27,7 @@ unskipped p first n (lost fault) skip h = absurd h
 unskipped p first n (again fault) skip h = omega (arith, h.2)
 unskipped p first n (probed behind bytes) skip h = absurd h
 unskipped p first n (trimmed behind fault) skip h = absurd h
+unskipped p first n copied skip h = absurd h
 unskipped p first n kept skip h = h
 
 pub still-none : (found : Finding) → skip_after 0 0 found ≡ 0
@@ -34,6 +36,7 @@ still-none (lost fault) = refl
 still-none (again fault) = omega arith
 still-none (probed behind bytes) = refl
 still-none (trimmed behind fault) = refl
+still-none copied = refl
 still-none kept = refl
 
 pub sweeps-all : SweepsTryAll

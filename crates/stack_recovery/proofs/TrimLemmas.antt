@@ -1,36 +1,31 @@
--- The end of a run, read backwards.
-use Rattle.std.proofs.Common.{◌≡◌, ℕ, zero, suc, ◌+◌, ◌-◌, ◌≤◌, ◌<◌, ◌==◌, Bool, false, List, [], ◌∷◌, ◌++◌, length, replicate, Option, Some, Ok, Err, add-zero, inl, refl, sym, ap, ◌∙◌, subst, arith, append_assoc}
+-- The last lost sectors of a run, and those before them, which aren't read.
+use Rattle.std.proofs.Common.{◌≡◌, ℕ, zero, suc, ◌+◌, ◌-◌, ◌≤◌, ◌==◌, Bool, false, List, [], ◌∷◌, ◌++◌, length, replicate, Option, Some, Err, refl, sym, ap, ◌∙◌, subst, arith, append_assoc}
 use Rattle.std.proofs.lemmas.Bool.{ne_eqb}
 use Rattle.std.proofs.lemmas.List.{append-nil, length-append, length-replicate}
 use Rattle.block_device.specs.Call.{Call}
-use Rattle.block_device.specs.Device.{Device}
 use Rattle.stack_meaning.specs.declared.fault.IoFault.{IoFault}
 use Rattle.stack_engine.specs.Bytes.{EachBytes}
-use Rattle.stack_engine.specs.Pieces.{PieceGives}
 use Rattle.stack_engine.specs.Stacks.{StackRecord}
 use Rattle.rescue_map.specs.declared.map.Run.{Run}
 use Rattle.rescue_map.specs.Maps.{losts, marks}
 use Rattle.runs.specs.Runs.{run}
 use Rattle.runs.specs.Tallies.{closed_by}
 use Rattle.runs.proofs.lemmas.RunLemmas.{IsTallied, tallied-lost}
-use Rattle.stack_recovery.specs.declared.fault.RecoveryFault.{RecoveryFault}
-use Rattle.stack_recovery.specs.declared.fault.RecoveryFault.TheVariants as recovery
 use Rattle.stack_recovery.specs.declared.lost_run.Loss.TheVariants.{Lost, Unscraped}
 use Rattle.stack_recovery.specs.declared.tally.Tally.{Tally}
 use Rattle.stack_recovery.specs.declared.trimming.LostEnd.{LostEnd}
-use Rattle.stack_recovery.specs.LeafReads.{CopiesLeaves, piece_failed, piece_probed}
 use Rattle.stack_recovery.specs.Listings.{Listed, Tells}
 use Rattle.stack_recovery.specs.Losses.{NotesEnd, closed_by_end, closed_by_unread, with_end, with_unread}
 use Rattle.stack_recovery.specs.LostRuns.{LostRun, is_same_loss, lost_in, untried_in}
-use Rattle.stack_recovery.specs.PassPieces.{IsProbedTo, MayReadOn, Scanned, Trimming, backward, forward, pass_over, turning}
-use Rattle.stack_recovery.specs.Recoveries.{EndsEarly, Sides, is_had, is_lost, sides}
+use Rattle.stack_recovery.specs.PassPieces.{IsProbedTo, Scanned, pass_over, way_trimmed}
+use Rattle.stack_recovery.specs.declared.way.Way.{Way}
+use Rattle.stack_recovery.specs.Recoveries.{Sides, is_had, is_lost, sides}
 use Rattle.stack_recovery.specs.Surveys.{AreMarked, MayLose, PieceRead, SectorState, all_states, states_of, trimmed}
-use Rattle.stack_recovery.specs.Trims.{IsLostEnd, ProbedTo, StopsProbing, no_probe, one_probed}
 use Rattle.stack_recovery.proofs.AheadLemmas.{noted-both}
 use Rattle.stack_recovery.proofs.CopyLemmas.{copied-lost}
 use Rattle.stack_recovery.proofs.LostRunLemmas.{is_same-equality, lost_in-append, lost_in-lost, untried_in-append, untried_in-lost}
 use Rattle.stack_recovery.proofs.SurveyLemmas.{states-push}
-use Rattle.stack_recovery.proofs.UnderwayLemmas.{IsUnderway, next-calls, next-goes, next-pieces, next-survey, runs-short, underway-probed}
+use Rattle.stack_recovery.proofs.UnderwayLemmas.{IsUnderway, next-calls, next-goes, next-pieces, next-survey}
 use Rattle.stack_recovery.proofs.lemmas.WritingLemmas.{runs-then}
 
 -- the states of the sectors
@@ -88,11 +83,11 @@ end-untried states tally at before count fault p =
 
 -- ---- the pass
 
-module _ (makes_map : Bool) (before : List Bool) (scan : Scanned) (old now : Sides) (at : ℕ) (tally : Tally) (noted : Option (List Run)) (t : Trimming) (calls : List Call) (u : IsUnderway makes_map before scan old now at tally noted t calls) where
+module _ (makes_map : Bool) (before : List Bool) (scan : Scanned) (old now : Sides) (at : ℕ) (tally : Tally) (noted : Option (List Run)) (way : Way) (calls : List Call) (u : IsUnderway makes_map before scan old now at tally noted way calls) where
   -- the last lost sectors of a run, and those before them, which aren't read
-  pub underway-trimmed : (last : LostEnd) (stack : StackRecord) (printed : Listed) (more : Option (List Run)) → IsProbedTo (pass_over old.stack.config scan.d before) at t (at + (last.before + last.count)) → 1 ≤ last.count
+  pub underway-trimmed : (last : LostEnd) (stack : StackRecord) (printed : Listed) (more : Option (List Run)) → IsProbedTo (pass_over old.stack.config scan.d before) at way (at + (last.before + last.count)) → 1 ≤ last.count
       → EachBytes now.stack scan.d (at + last.before) last.count (Err last.fault) stack → MayLose now.stack.config scan.d (at + last.before) last.count last.fault → AreMarked before at (last.before + last.count) false → NotesEnd last noted more
-      → Tells now.printed printed (closed_by_end tally at last) → IsUnderway makes_map before scan old (sides stack now.out printed) (at + (last.before + last.count)) (with_end tally at last) more forward calls
+      → Tells now.printed printed (closed_by_end tally at last) → IsUnderway makes_map before scan old (sides stack now.out printed) (at + (last.before + last.count)) (with_end tally at last) more (way_trimmed way) calls
   underway-trimmed last stack printed more ends some p may marked noting told =
       let r : PieceRead = record { count = last.before + last.count; found = trimmed last.before last.fault; after = stack } in
       let rest : last.before + last.count - last.before ≡ last.count = omega arith in
@@ -121,69 +116,3 @@ module _ (makes_map : Bool) (before : List Bool) (scan : Scanned) (old now : Sid
         goes_on = next-goes _ _ _ _ _ _ _ _ _ _ u r;
         written = sym (append-nil calls) ∙ next-calls _ _ _ _ _ _ _ _ _ _ u r;
       }
-
--- ---- pieces that are read backwards
-
--- the pass before and after them: it has come to the same sector
-pub record IsProbing (makes_map : Bool) (before : List Bool) (scan : Scanned) (old now : Sides) (at low end : ℕ) (tally : Tally) (noted : Option (List Run)) (calls : List Call) (stack : StackRecord) : Type 0 where
-  pub t : Trimming
-  pub under : IsUnderway makes_map before scan old (sides stack now.out now.printed) at tally noted t calls
-  pub ends : IsProbedTo (pass_over old.stack.config scan.d before) at t low
-  pub within : low ≤ end
-  pub reads_on : low ≤ at → at < end → MayReadOn t at
-
-module _ {D : Type 0} (state : D → Device) (does : D → Call → D → Type 0) (makes_map : Bool) (before : List Bool) (scan : Scanned) (old now : Sides) (at end : ℕ) (tally : Tally) (noted : Option (List Run)) (calls : List Call)
-    (u : IsUnderway makes_map before scan old now at tally noted turning calls) (run_end : IsProbedTo (pass_over old.stack.config scan.d before) at turning end) (marked : AreMarked before at (end - at) false) (from : at ≤ end) where
-  pub probing : {low : ℕ} {reads : List PieceRead} {left : StackRecord} → ProbedTo state does scan.d at end now.stack low reads left → IsProbing makes_map before scan old now at low end tally noted calls left
-  probing no_probe = record { t = turning; under = u; ends = run_end; within = omega arith; reads_on = λ low some. absurd (omega (arith, low, some)) }
-  probing (one_probed {low} {reads} {v} {w'} first bytes so_far after below read given) =
-      let p = probing so_far in
-      let there : at + (low - at) ≡ low = omega (arith, after, below) in
-      let here : at + (first - at) ≡ first = omega (arith, after) in
-      let left : low - at - (first - at) ≡ low - first = omega (arith, after, below) in
-      let next = underway-probed _ _ _ _ _ _ _ _ _ _ p.under (first - at) (low - at) bytes w' (subst (λ (k : ℕ). IsProbedTo (pass_over old.stack.config scan.d before) at p.t k) (sym there) p.ends) (omega (arith, after, below))
-      (subst (λ (k : ℕ). EachBytes v scan.d k (low - at - (first - at)) (Ok bytes) w') (sym here) (subst (λ (k : ℕ). EachBytes v scan.d first k (Ok bytes) w') (sym left) read)) (λ j few. marked j (omega (arith, few, p.within))) in
-      record {
-        t = backward (at + (first - at));
-        under = next;
-        ends = sym here;
-        within = omega (arith, below, p.within);
-        reads_on = λ low' some. omega (arith, low', after, here);
-      }
-
-  -- a read of them ran out of memory
-  pub ends-probing : (stack : StackRecord) (fault : RecoveryFault) → now.out.failures ≡ old.out.failures → StopsProbing state does scan.d at end now.stack stack fault → EndsEarly makes_map before scan old (sides stack now.out now.printed) fault
-  ends-probing stack recovery.NoMemory unfailed p = let q = probing p.probed in runs-short _ _ _ _ _ _ _ _ _ _ q.under stack unfailed (inl p.read)
-  ends-probing stack recovery.Output unfailed p = absurd p
-
-module _ {D : Type 0} (state : D → Device) (does : D → Call → D → Type 0) (d at end : ℕ) (w : StackRecord) where
-  pub probed-within : {low : ℕ} {reads : List PieceRead} {left : StackRecord} → ProbedTo state does d at end w low reads left → low ≤ end
-  probed-within no_probe = omega arith
-  probed-within (one_probed {low} first bytes so_far after below read given) = let p = probed-within so_far in omega (arith, below, p)
-
-  pub probed-config : {low : ℕ} {reads : List PieceRead} {left : StackRecord} → ProbedTo state does d at end w low reads left → left.config ≡ w.config
-  probed-config no_probe = refl
-  probed-config (one_probed first bytes so_far after below read given) = read.any.config ∙ probed-config so_far
-
-  pub stops-memory : (w' : StackRecord) (fault : RecoveryFault) → StopsProbing state does d at end w w' fault → fault ≡ recovery.NoMemory
-  stops-memory w' recovery.NoMemory p = refl
-  stops-memory w' recovery.Output p = absurd p
-
--- their calls
-pub copies-probed : {D O : Type 0} (state : D → Device) (does : D → Call → D → Type 0) (Did : O → Call → O → Type 0) (before : List Bool) (d : ℕ) (w : StackRecord) (o : O) (at end : ℕ) (v : StackRecord) (p : O) → CopiesLeaves state does Did before d w o at v p
-    → {low : ℕ} {reads : List PieceRead} {left : StackRecord} → ProbedTo state does d at end v low reads left → CopiesLeaves state does Did before d w o at left p
-copies-probed state does Did before d w o at end v p h no_probe = h
-copies-probed state does Did before d w o at end v p h (one_probed {low} {reads} {v = u} {w'} first bytes so_far after below read given) =
-    let here : at + (first - at) ≡ first = omega (arith, after) in
-    piece_probed (first - at) (low - first) bytes (copies-probed state does Did before d w o at end v p h so_far) (subst (λ (k : ℕ). PieceGives state does u (d, k) (low - first) (Ok bytes) w') (sym here) given)
-
-module _ {D O : Type 0} (state : D → Device) (does : D → Call → D → Type 0) (Did : O → Call → O → Type 0) (before : List Bool) (d : ℕ) (w : StackRecord) (o : O) (at end : ℕ) (v : StackRecord) (p : O) (h : CopiesLeaves state does Did before d w o at v p) where
-  -- and that of the read that failed
-  pub copies-trimmed : {low : ℕ} {reads : List PieceRead} {left : StackRecord} (w' : StackRecord) (last : LostEnd) (further : ℕ) → ProbedTo state does d at end v low reads left → IsLostEnd state does d at low left w' last
-      → CopiesLeaves state does Did before d w o (at + further) w' p
-  copies-trimmed w' last further probed e = piece_failed last.before last.count further last.fault (copies-probed state does Did before d w o at end v p h probed) e.given
-
-  pub copies-stopped : (w' : StackRecord) (fault : RecoveryFault) → StopsProbing state does d at end v w' fault → CopiesLeaves state does Did before d w o at w' p
-  copies-stopped w' recovery.NoMemory s =
-      subst (λ (k : ℕ). CopiesLeaves state does Did before d w o k w' p) (add-zero at) (piece_failed s.behind s.count 0 s.fault (copies-probed state does Did before d w o at end v p h s.probed) s.given)
-  copies-stopped w' recovery.Output s = absurd s

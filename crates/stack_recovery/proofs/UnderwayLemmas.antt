@@ -16,6 +16,7 @@ use Rattle.runs.specs.Runs.{run}
 use Rattle.runs.specs.Tallies.{closed_by, listed}
 use Rattle.stack_recovery.specs.LostRuns.{LostRun, is_same_loss, lost_count, lost_in, untried_count, untried_in}
 use Rattle.stack_recovery.specs.declared.recovery.Counts.{Counts}
+use Rattle.stack_recovery.specs.declared.recovery.Course.{Course}
 use Rattle.stack_recovery.specs.declared.lost_run.Loss.{Loss}
 use Rattle.stack_recovery.specs.declared.lost_run.Loss.TheVariants.{Lost}
 use Rattle.stack_recovery.specs.declared.tally.Tally.{Tally}
@@ -24,20 +25,22 @@ use Rattle.stack_recovery.specs.Deadlines.{EndsAt}
 use Rattle.stack_recovery.specs.Handing.{calls_found, copy_calls}
 use Rattle.stack_recovery.specs.Listings.{Listed, Tells}
 use Rattle.stack_recovery.specs.Losses.{NotesLost, StopsInRun, with_loss}
-use Rattle.stack_recovery.specs.PassPieces.{ArePassPieces, IsNextPiece, IsPieceFound, IsProbedTo, MayReadOn, Scanned, Trimming, backward, forward, pass_over, trimming_found, trimming_from}
+use Rattle.stack_recovery.specs.PassPieces.{ArePassPieces, IsCopiedTo, IsNextPiece, IsPieceFound, IsProbedTo, IsWayInside, Scanned, pass_over, way_found, way_from, way_kept, way_lost, way_probed}
 use Rattle.stack_recovery.specs.Recoveries.{EndsEarly, FailsOutput, FindsNoMemory, GoesOverUntil, IsBegunOver, AreLossesNoted, AreMarksNoted, IsMapRefused, NotesMore, RunsShort, Sides, counted_sectors, is_had, is_lost, sides}
-use Rattle.stack_recovery.specs.Surveys.{AreMarked, IsPieceSurveyed, IsSurveyOver, MayLose, PieceRead, SectorState, all_states, had, kept, lost, probed, states_of}
+use Rattle.stack_recovery.specs.Surveys.{AreMarked, IsPieceSurveyed, IsSurveyOver, MayLose, PieceRead, SectorState, all_states, copied, had, kept, lost, probed, states_of}
+use Rattle.stack_recovery.specs.declared.way.Way.{Way}
+use Rattle.stack_recovery.specs.declared.way.Way.TheVariants.{Forward}
 use Rattle.stack_recovery.proofs.AheadLemmas.{length-noted, noted-more}
-use Rattle.stack_recovery.proofs.CopyLemmas.{copied-had, copied-lost, copied-none}
+use Rattle.stack_recovery.proofs.CopyLemmas.{copied-behind, copied-had, copied-lost, copied-none}
 use Rattle.runs.proofs.lemmas.RunLemmas.{IsTallied, tallied-all, tallied-had, tallied-lost, tallied-none}
 use Rattle.stack_recovery.proofs.LostRunLemmas.{is_same-equality, lost_in-append, lost_in-had, lost_in-lost, lost_in-most, untried_in-append, untried_in-had, untried_in-lost}
-use Rattle.stack_recovery.proofs.PieceLemmas.{calls-push, pieces-push, trimming-push}
+use Rattle.stack_recovery.proofs.PieceLemmas.{calls-push, pieces-push, way-push}
 use Rattle.stack_recovery.proofs.SurveyLemmas.{states-push, survey-push}
 use Rattle.stack_recovery.proofs.lemmas.WritingLemmas.{runs-then, tells_nothing}
 
 -- The sectors before that one were had, are lost or unscraped, and of their runs all but the last were printed. The pass goes on so, and
 -- those calls are the writes of the pieces.
-pub record IsUnderway (makes_map : Bool) (before : List Bool) (scan : Scanned) (old new : Sides) (at : ℕ) (tally : Tally) (made : Option (List Run)) (t : Trimming) (calls : List Call) : Type 0 where
+pub record IsUnderway (makes_map : Bool) (before : List Bool) (scan : Scanned) (old new : Sides) (at : ℕ) (tally : Tally) (made : Option (List Run)) (way : Way) (calls : List Call) : Type 0 where
   pub reads : List PieceRead
   pub closed : List LostRun
   pub survey : IsSurveyOver before scan.d 0 old.stack reads new.stack
@@ -49,8 +52,8 @@ pub record IsUnderway (makes_map : Bool) (before : List Bool) (scan : Scanned) (
   pub printed : Tells old.printed new.printed closed
   pub noted : AreMarksNoted made (all_states reads)
   pub bad : AreLossesNoted made (all_states reads)
-  pub pieces : ArePassPieces scan.no_scrape (pass_over old.stack.config scan.d before) reads
-  pub goes_on : t ≡ trimming_from scan.no_scrape forward 0 reads
+  pub pieces : ArePassPieces scan (pass_over old.stack.config scan.d before) reads
+  pub goes_on : way ≡ way_from scan Forward 0 reads
   pub written : calls ≡ copy_calls 0 reads
 
 -- the counts of a tally, of so many sectors
@@ -63,13 +66,8 @@ closed-tally old new closed same_lost same_untried =
     ap₂ {C = Tally} (λ (l : Option LostRun) (m : ℕ). record { last = l; lost = m; untried = new.untried }) closed same_lost
     ∙ ap (λ (t : ℕ). record { last = None; lost = old.lost; untried = t }) same_untried
 
--- a pass that ends at the last sector, or where it reads on
-pub ended-on : (turns : Bool) (t : Trimming) (at sectors end : ℕ) → at ≤ sectors → end ≤ at → (turns ≡ true → sectors ≤ end) → (turns ≡ false → MayReadOn t at) → (at ≡ sectors) ⊎ MayReadOn t at
-ended-on true t at sectors end within below whole on = inl (omega (arith, within, below, whole refl))
-ended-on false t at sectors end within below whole on = inr (on refl)
-
 pub underway-none : (makes_map : Bool) (before : List Bool) (scan : Scanned) (old : Sides) (noted : Option (List Run)) → AreMarksNoted noted [] → AreLossesNoted noted []
-    → IsUnderway makes_map before scan old old 0 (record { last = None; lost = 0; untried = 0 }) noted forward []
+    → IsUnderway makes_map before scan old old 0 (record { last = None; lost = 0; untried = 0 }) noted Forward []
 underway-none makes_map before scan old noted p q = record {
   reads = [];
   closed = [];
@@ -87,7 +85,7 @@ underway-none makes_map before scan old noted p q = record {
   written = refl;
 }
 
-module _ (makes_map : Bool) (before : List Bool) (scan : Scanned) (old now : Sides) (at : ℕ) (tally : Tally) (noted : Option (List Run)) (t : Trimming) (calls : List Call) (u : IsUnderway makes_map before scan old now at tally noted t calls) where
+module _ (makes_map : Bool) (before : List Bool) (scan : Scanned) (old now : Sides) (at : ℕ) (tally : Tally) (noted : Option (List Run)) (way : Way) (calls : List Call) (u : IsUnderway makes_map before scan old now at tally noted way calls) where
   -- its runs are the first of those of the sectors so far
   pub begun : (stack : StackRecord) (out : Device) → IsBegunOver before scan old (sides stack out now.printed)
   begun stack out = record {
@@ -113,17 +111,18 @@ module _ (makes_map : Bool) (before : List Bool) (scan : Scanned) (old now : Sid
   }
 
   -- a write of the output device failed
-  pub fails-output : (n : ℕ) (bytes : List ℕ) (stack : StackRecord) (out : Device) → EachBytes now.stack scan.d at n (Ok bytes) stack → IsWritten now.out at n false out → HasFailed old.out out → (IsTrue old.out.never_fails → ⊥)
+  pub fails-output : (behind n : ℕ) (bytes : List ℕ) (stack : StackRecord) (out : Device) → EachBytes now.stack scan.d (at + behind) n (Ok bytes) stack → IsWritten now.out (at + behind) n false out → HasFailed old.out out → (IsTrue old.out.never_fails → ⊥)
       → FailsOutput before scan old (sides stack out now.printed)
   unfolding begun
-  fails-output n bytes stack out read writing failed sure = record {
+  fails-output behind n bytes stack out read writing failed sure = record {
     begun = begun stack out;
     out = now.out;
+    behind = behind;
     n = n;
     bytes = bytes;
-    read = subst (λ (k : ℕ). EachBytes now.stack scan.d k n (Ok bytes) stack) u.here read;
+    read = subst (λ (k : ℕ). EachBytes now.stack scan.d (k + behind) n (Ok bytes) stack) u.here read;
     copied = u.copied;
-    writing = subst (λ (k : ℕ). IsWritten now.out k n false out) u.here writing;
+    writing = subst (λ (k : ℕ). IsWritten now.out (k + behind) n false out) u.here writing;
     failed = failed;
     sure = sure;
   }
@@ -148,17 +147,19 @@ module _ (makes_map : Bool) (before : List Bool) (scan : Scanned) (old now : Sid
       let here : at ≡ 0 + length (all_states u.reads) = omega (arith, u.here) in
       survey-push before scan.d 0 old.stack u.reads now.stack r u.survey (subst (λ (k : ℕ). IsPieceSurveyed before scan.d k now.stack r) here p)
 
-  pub next-pieces : (r : PieceRead) → IsPieceFound (pass_over old.stack.config scan.d before) at t r.count r.found → ArePassPieces scan.no_scrape (pass_over old.stack.config scan.d before) (u.reads ++ r ∷ [])
+  pub next-pieces : (r : PieceRead) → IsPieceFound (pass_over old.stack.config scan.d before) at way r.count r.found → ArePassPieces scan (pass_over old.stack.config scan.d before) (u.reads ++ r ∷ [])
   next-pieces r h =
       let here : at ≡ 0 + length (all_states u.reads) = omega (arith, u.here) in
-      pieces-push scan.no_scrape (pass_over old.stack.config scan.d before) 0 forward u.reads r u.pieces
-      (subst (λ (l : Trimming). IsPieceFound (pass_over old.stack.config scan.d before) (0 + length (all_states u.reads)) l r.count r.found) u.goes_on
-      (subst (λ (k : ℕ). IsPieceFound (pass_over old.stack.config scan.d before) k t r.count r.found) here h))
+      pieces-push scan (pass_over old.stack.config scan.d before) 0 Forward u.reads r u.pieces
+      (subst (λ (l : Way). IsPieceFound (pass_over old.stack.config scan.d before) (0 + length (all_states u.reads)) l r.count r.found) u.goes_on
+      (subst (λ (k : ℕ). IsPieceFound (pass_over old.stack.config scan.d before) k way r.count r.found) here h))
 
-  pub next-goes : (r : PieceRead) → trimming_found scan.no_scrape at r.found ≡ trimming_from scan.no_scrape forward 0 (u.reads ++ r ∷ [])
+  pub next-goes : (r : PieceRead) → way_found scan way at r.count r.found ≡ way_from scan Forward 0 (u.reads ++ r ∷ [])
   next-goes r =
       let here : at ≡ 0 + length (all_states u.reads) = omega (arith, u.here) in
-      ap (λ (k : ℕ). trimming_found scan.no_scrape k r.found) here ∙ sym (trimming-push scan.no_scrape forward 0 u.reads r)
+      ap (λ (k : ℕ). way_found scan way k r.count r.found) here
+      ∙ ap (λ (l : Way). way_found scan l (0 + length (all_states u.reads)) r.count r.found) u.goes_on
+      ∙ sym (way-push scan Forward 0 u.reads r)
 
   pub next-calls : (r : PieceRead) → calls ++ calls_found at r.found ≡ copy_calls 0 (u.reads ++ r ∷ [])
   next-calls r =
@@ -168,14 +169,14 @@ module _ (makes_map : Bool) (before : List Bool) (scan : Scanned) (old now : Sid
       ∙ sym (calls-push 0 u.reads r)
 
   -- a piece that was had, written, and told
-  pub underway-had : (n : ℕ) (bytes : List ℕ) (stack : StackRecord) (k : ℕ) (ok : Bool) (out : Device) (printed : Listed) (next : Tally) (more : Option (List Run)) → MayReadOn t at → IsNextPiece (pass_over old.stack.config scan.d before) at 1 n
+  pub underway-had : (n : ℕ) (bytes : List ℕ) (stack : StackRecord) (k : ℕ) (ok : Bool) (out : Device) (printed : Listed) (next : Tally) (more : Option (List Run)) → way ≡ Forward → IsNextPiece (pass_over old.stack.config scan.d before) at 1 n
       → 1 ≤ n → EachBytes now.stack scan.d at n (Ok bytes) stack → AreMarked before at n false → NotesMore marks noted more (replicate n true) → NotesMore losts noted more (replicate n false) → k ≡ n
       → IsWritten now.out at k ok out → (IsTrue now.out.steady → out.image ≡ spliced now.out.image at (sectors_of k bytes))
-      → Tells now.printed printed (listed tally.last) → next ≡ record { last = None; lost = tally.lost; untried = tally.untried } → IsUnderway makes_map before scan old (sides stack out printed) (at + n) next more forward (calls ++ Write at bytes true ∷ [])
+      → Tells now.printed printed (listed tally.last) → next ≡ record { last = None; lost = tally.lost; untried = tally.untried } → IsUnderway makes_map before scan old (sides stack out printed) (at + n) next more Forward (calls ++ Write at bytes true ∷ [])
   underway-had n bytes stack k ok out printed next more may piece some p marked noting noting' count w image told is =
       let r : PieceRead = record { count = n; found = had bytes; after = stack } in
       let states : all_states (u.reads ++ r ∷ []) ≡ all_states u.reads ++ replicate n None = states-push u.reads r in
-      subst (λ (l : Tally). IsUnderway makes_map before scan old (sides stack out printed) (at + n) l more forward (calls ++ Write at bytes true ∷ [])) (sym is) (record {
+      subst (λ (l : Tally). IsUnderway makes_map before scan old (sides stack out printed) (at + n) l more Forward (calls ++ Write at bytes true ∷ [])) (sym is) (record {
         reads = u.reads ++ r ∷ [];
         closed = u.closed ++ listed tally.last;
         survey = next-survey r (record { answered = p; may = tt; marked = marked });
@@ -194,11 +195,11 @@ module _ (makes_map : Bool) (before : List Bool) (scan : Scanned) (old now : Sid
 
   -- sectors that were had before
   pub underway-kept : (n : ℕ) (printed : Listed) (next : Tally) (more : Option (List Run)) → 1 ≤ n → AreMarked before at n true → NotesMore marks noted more (replicate n true) → NotesMore losts noted more (replicate n false)
-      → Tells now.printed printed (listed tally.last) → next ≡ record { last = None; lost = tally.lost; untried = tally.untried } → IsUnderway makes_map before scan old (sides now.stack now.out printed) (at + n) next more forward calls
+      → Tells now.printed printed (listed tally.last) → next ≡ record { last = None; lost = tally.lost; untried = tally.untried } → IsUnderway makes_map before scan old (sides now.stack now.out printed) (at + n) next more (way_kept scan (at + n)) calls
   underway-kept n printed next more some marked noting noting' told is =
       let r : PieceRead = record { count = n; found = kept; after = now.stack } in
       let states : all_states (u.reads ++ r ∷ []) ≡ all_states u.reads ++ replicate n None = states-push u.reads r in
-      subst (λ (l : Tally). IsUnderway makes_map before scan old (sides now.stack now.out printed) (at + n) l more forward calls) (sym is) (record {
+      subst (λ (l : Tally). IsUnderway makes_map before scan old (sides now.stack now.out printed) (at + n) l more (way_kept scan (at + n)) calls) (sym is) (record {
         reads = u.reads ++ r ∷ [];
         closed = u.closed ++ listed tally.last;
         survey = next-survey r (record { answered = refl; may = some; marked = marked });
@@ -216,15 +217,15 @@ module _ (makes_map : Bool) (before : List Bool) (scan : Scanned) (old now : Sid
       })
 
   -- a piece that is lost, and told
-  pub underway-lost : (n : ℕ) (fault : IoFault) (stack : StackRecord) (printed : Listed) (next : Tally) (more : Option (List Run)) → MayReadOn t at → IsNextPiece (pass_over old.stack.config scan.d before) at 1 n
+  pub underway-lost : (n : ℕ) (fault : IoFault) (stack : StackRecord) (printed : Listed) (next : Tally) (more : Option (List Run)) → way ≡ Forward → IsNextPiece (pass_over old.stack.config scan.d before) at 1 n
       → 1 ≤ n → EachBytes now.stack scan.d at n (Err fault) stack → AreMarked before at n false → NotesLost (run at n (Lost fault)) noted more → MayLose now.stack.config scan.d at n fault
       → Tells now.printed printed (closed_by is_same_loss tally.last (run at n (Lost fault))) → next ≡ with_loss tally (run at n (Lost fault))
-      → IsUnderway makes_map before scan old (sides stack now.out printed) (at + n) next more (trimming_found scan.no_scrape at (lost fault)) calls
+      → IsUnderway makes_map before scan old (sides stack now.out printed) (at + n) next more (way_lost scan.no_scrape) calls
   underway-lost n fault stack printed next more may piece some p marked noting lose told is =
       let r : PieceRead = record { count = n; found = lost fault; after = stack } in
       let loss : Loss = Lost fault in
       let states : all_states (u.reads ++ r ∷ []) ≡ all_states u.reads ++ replicate n (Some loss) = states-push u.reads r in
-      subst (λ (l : Tally). IsUnderway makes_map before scan old (sides stack now.out printed) (at + n) l more (trimming_found scan.no_scrape at (lost fault)) calls) (sym is) (record {
+      subst (λ (l : Tally). IsUnderway makes_map before scan old (sides stack now.out printed) (at + n) l more (way_lost scan.no_scrape) calls) (sym is) (record {
         reads = u.reads ++ r ∷ [];
         closed = u.closed ++ closed_by is_same_loss tally.last (run at n loss);
         survey = next-survey r (record { answered = p; may = lose; marked = marked });
@@ -241,28 +242,51 @@ module _ (makes_map : Bool) (before : List Bool) (scan : Scanned) (old now : Sid
         written = sym (append-nil calls) ∙ next-calls r;
       })
 
-  -- a piece behind these sectors that was read, and isn't used
-  pub underway-probed : (behind n : ℕ) (bytes : List ℕ) (stack : StackRecord) → IsProbedTo (pass_over old.stack.config scan.d before) at t (at + n) → behind < n
-      → EachBytes now.stack scan.d (at + behind) (n - behind) (Ok bytes) stack → AreMarked before at n false
-      → IsUnderway makes_map before scan old (sides stack now.out now.printed) at tally noted (backward (at + behind)) calls
-  underway-probed behind n bytes stack ends some p marked =
+  -- sectors that were copied backwards
+  pub underway-copied : (n : ℕ) (printed : Listed) (next : Tally) (more : Option (List Run)) → 1 ≤ n → IsCopiedTo at way (at + n) → AreMarked before at n false → NotesMore marks noted more (replicate n true) → NotesMore losts noted more (replicate n false)
+      → Tells now.printed printed (listed tally.last) → next ≡ record { last = None; lost = tally.lost; untried = tally.untried } → IsUnderway makes_map before scan old (sides now.stack now.out printed) (at + n) next more Forward calls
+  underway-copied n printed next more some ends marked noting noting' told is =
+      let r : PieceRead = record { count = n; found = copied; after = now.stack } in
+      let states : all_states (u.reads ++ r ∷ []) ≡ all_states u.reads ++ replicate n None = states-push u.reads r in
+      subst (λ (l : Tally). IsUnderway makes_map before scan old (sides now.stack now.out printed) (at + n) l more Forward calls) (sym is) (record {
+        reads = u.reads ++ r ∷ [];
+        closed = u.closed ++ listed tally.last;
+        survey = next-survey r (record { answered = refl; may = some; marked = marked });
+        here = omega (arith, u.here, ap length states, length-append (all_states u.reads) (states_of r), length-replicate {A = SectorState} n None);
+        tallied = rw states (tallied-had is_same_loss is_same-equality (all_states u.reads) u.closed tally.last n some u.tallied);
+        lost = u.lost ∙ sym (ap lost_in states ∙ lost_in-append (all_states u.reads) (states_of r) ∙ ap (λ (m : ℕ). lost_in (all_states u.reads) + m) (lost_in-had n) ∙ omega arith);
+        untried = u.untried ∙ sym (ap untried_in states ∙ untried_in-append (all_states u.reads) (states_of r) ∙ ap (λ (m : ℕ). untried_in (all_states u.reads) + m) (untried_in-had n) ∙ omega arith);
+        copied = copied-lost u.reads r old.out now.out (λ first m image. refl) u.copied;
+        printed = runs-then old.printed now.printed printed u.closed (listed tally.last) u.printed told;
+        noted = rw states (noted-more marks is_had noted more (all_states u.reads) n None u.noted noting);
+        bad = rw states (noted-more losts is_lost noted more (all_states u.reads) n None u.bad noting');
+        pieces = next-pieces r ends;
+        goes_on = next-goes r;
+        written = sym (append-nil calls) ∙ next-calls r;
+      })
+
+  -- a piece behind these sectors that was read and written
+  pub underway-probed : (behind n m : ℕ) (bytes : List ℕ) (stack : StackRecord) (out : Device) → IsProbedTo (pass_over old.stack.config scan.d before) at way (at + n) → behind < n → m ≡ n - behind
+      → EachBytes now.stack scan.d (at + behind) m (Ok bytes) stack → AreMarked before at n false → IsWritten now.out (at + behind) m true out → (IsTrue now.out.steady → out.image ≡ spliced now.out.image (at + behind) (sectors_of m bytes))
+      → IsUnderway makes_map before scan old (sides stack out now.printed) at tally noted (way_probed way (at + behind) (at + n)) (calls ++ Write (at + behind) bytes true ∷ [])
+  underway-probed behind n m bytes stack out ends some count p marked w image =
       let r : PieceRead = record { count = n; found = probed behind bytes; after = stack } in
       let states : all_states (u.reads ++ r ∷ []) ≡ all_states u.reads = states-push u.reads r ∙ append-nil (all_states u.reads) in
       record {
         reads = u.reads ++ r ∷ [];
         closed = u.closed;
-        survey = next-survey r (record { answered = p; may = some; marked = marked });
+        survey = next-survey r (record { answered = subst (λ (k : ℕ). EachBytes now.stack scan.d (at + behind) k (Ok bytes) stack) count p; may = some; marked = marked });
         here = u.here ∙ sym (ap length states);
         tallied = rw states u.tallied;
         lost = u.lost ∙ sym (ap lost_in states);
         untried = u.untried ∙ sym (ap untried_in states);
-        copied = copied-lost u.reads r old.out now.out (λ first m image. refl) u.copied;
+        copied = copied-behind u.reads n at behind m bytes stack old.out now.out out u.here count u.copied w image;
         printed = u.printed;
         noted = rw states u.noted;
         bad = rw states u.bad;
         pieces = next-pieces r ends;
         goes_on = next-goes r;
-        written = sym (append-nil calls) ∙ next-calls r;
+        written = next-calls r;
       }
 
   -- the sectors so far are those that are counted
@@ -270,16 +294,17 @@ module _ (makes_map : Bool) (before : List Bool) (scan : Scanned) (old now : Sid
   counted-all counts is = let sum : at ≡ at - (tally.lost + tally.untried) + (tally.lost + tally.untried) = omega (arith, few) in sum ∙ sym (ap counted_sectors is)
 
   -- the pass ended here
-  pub underway-until : (deadline : Option Deadline) (printed : Listed) (sectors : ℕ) (counts : Counts) → EndsAt deadline at sectors → sectors ≡ size old.stack.config (mapped scan.d) → Tells now.printed printed (listed tally.last)
-      → counts ≡ tally_counts at tally → now.out.failures ≡ old.out.failures → is_some noted ≡ makes_map → (at ≡ sectors) ⊎ MayReadOn t at → GoesOverUntil deadline before scan old counts noted (sides now.stack now.out printed)
-  underway-until deadline printed sectors counts ends all told is unfailed same on = record {
+  pub underway-until : (deadline : Option Deadline) (printed : Listed) (sectors : ℕ) (course : Course) → EndsAt deadline at sectors → sectors ≡ size old.stack.config (mapped scan.d) → Tells now.printed printed (listed tally.last)
+      → course.counts ≡ tally_counts at tally → course.way ≡ way → now.out.failures ≡ old.out.failures → IsWayInside at way sectors → GoesOverUntil deadline before scan old course noted (sides now.stack now.out printed)
+  underway-until deadline printed sectors course ends all told is same unfailed inside = record {
     goes = record {
       reads = u.reads;
       survey = u.survey;
-      whole = sym u.here ∙ counted-all counts is;
+      whole = sym u.here ∙ counted-all course.counts is;
       pieces = u.pieces;
-      trims = subst (λ (n : ℕ). (n ≡ size old.stack.config (mapped scan.d)) ⊎ MayReadOn (trimming_from scan.no_scrape forward 0 u.reads) n) (counted-all counts is)
-          (subst (λ (l : Trimming). (at ≡ size old.stack.config (mapped scan.d)) ⊎ MayReadOn l at) u.goes_on (subst (λ (n : ℕ). (at ≡ n) ⊎ MayReadOn t at) all on));
+      goes_on = same ∙ u.goes_on;
+      inside = subst (λ (n : ℕ). IsWayInside n course.way (size old.stack.config (mapped scan.d))) (counted-all course.counts is)
+          (subst (λ (l : Way). IsWayInside at l (size old.stack.config (mapped scan.d))) (sym same) (subst (λ (n : ℕ). IsWayInside at way n) all inside));
       copied = u.copied;
       unfailed = unfailed;
       printed = rw (tallied-all is_same_loss is_same-equality (all_states u.reads) u.closed tally.last u.tallied) (runs-then old.printed now.printed printed u.closed (listed tally.last) u.printed told);
@@ -288,5 +313,5 @@ module _ (makes_map : Bool) (before : List Bool) (scan : Scanned) (old now : Sid
       noted = u.noted;
       bad = u.bad;
     };
-    ends = subst (λ (n : ℕ). EndsAt deadline n (size old.stack.config (mapped scan.d))) (counted-all counts is) (subst (λ (n : ℕ). EndsAt deadline at n) all ends);
+    ends = subst (λ (n : ℕ). EndsAt deadline n (size old.stack.config (mapped scan.d))) (counted-all course.counts is) (subst (λ (n : ℕ). EndsAt deadline at n) all ends);
   }

@@ -1,4 +1,5 @@
 -- What callers may cite.
+pub mod CopiedMeantLemmas
 pub mod JoinLemmas
 pub mod LostLemmas
 pub mod MeantLemmas

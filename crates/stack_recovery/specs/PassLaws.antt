@@ -3,7 +3,7 @@ use Rattle.std.specs.Prelude.{◌≡◌, ℕ, ◌+◌, ◌≤◌, Bool, false, L
 use Rattle.stack_lines.specs.Touches.{failures_of}
 use Rattle.stack_engine.specs.Healing.{HasNoParity}
 use Rattle.stack_engine.specs.Stacks.{StackRecord}
-use Rattle.stack_recovery.specs.PassPieces.{ArePassPieces, IsNextPiece, Pass}
+use Rattle.stack_recovery.specs.PassPieces.{ArePassPieces, IsNextPiece, Pass, Scanned}
 use Rattle.stack_recovery.specs.Skims.{AreSkims, IsSkimOver, Skim, marks_of}
 use Rattle.stack_recovery.specs.Surveys.{Finding, PieceRead, again, copied, had, kept, lost, probed, trimmed}
 
@@ -44,7 +44,7 @@ AreScraped (r ∷ more) = IsScraped r.found × AreScraped more
 
 -- A pass that scrapes leaves no sector unscraped.
 abbrev pub PassesScrape : Type 0
-PassesScrape = (p : Pass) (reads : List PieceRead) → ArePassPieces false p reads → AreScraped reads
+PassesScrape = (scan : Scanned) (p : Pass) (reads : List PieceRead) → scan.no_scrape ≡ false → ArePassPieces scan p reads → AreScraped reads
 
 -- ---- failing reads
 

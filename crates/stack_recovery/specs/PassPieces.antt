@@ -8,8 +8,8 @@ use Rattle.stack_recovery.specs.Surveys.{AreMarked, Finding, PieceRead, again, c
 use Rattle.stack_recovery.specs.declared.way.Way.{Way}
 use Rattle.stack_recovery.specs.declared.way.Way.TheVariants.{Backward, Forward, Turned}
 
--- A mapped device, and whether sectors between lost ones aren't read. An earlier pass ended before sector `turned`, reading backwards a run
--- that begins there; 0 if none did.
+-- A mapped device, and whether sectors between lost ones aren't read. Then a run that begins at sector `turned` is only read backwards, since
+-- an earlier pass ended there; 0 if there is none.
 pub record Scanned : Type 0 where
   pub d : ℕ
   pub no_scrape : Bool
@@ -57,8 +57,8 @@ abbrev pub way_lost : Bool → Way
 way_lost no_scrape = if no_scrape then Turned else Forward
 
 -- after sectors that were read before the pass, up to that one
-abbrev pub way_kept : ℕ → ℕ → Way
-way_kept turned at = if at == turned then Turned else Forward
+abbrev pub way_kept : Scanned → ℕ → Way
+way_kept scan at = if at == scan.turned then way_lost scan.no_scrape else Forward
 
 -- after a piece of n sectors from sector `first` on, by its result
 abbrev pub way_found : Scanned → Way → ℕ → ℕ → Finding → Way
@@ -68,7 +68,7 @@ way_found scan way first n (again fault) = Forward
 way_found scan way first n (probed behind bytes) = way_probed way (first + behind) (first + n)
 way_found scan way first n (trimmed behind fault) = way_trimmed way
 way_found scan way first n copied = Forward
-way_found scan way first n kept = way_kept scan.turned (first + n)
+way_found scan way first n kept = way_kept scan (first + n)
 
 -- the sectors up to this end are read backwards: from the end of the run on, and then from where the last read began
 abbrev pub IsProbedTo : Pass → ℕ → Way → ℕ → Type 0

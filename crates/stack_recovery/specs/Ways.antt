@@ -1,6 +1,6 @@
 -- How far a pass has read a run backwards.
 use Rattle.std.specs.Prelude.{ℕ, ◌==◌, Bool, true, false}
-use Rattle.stack_recovery.specs.PassPieces.{way_kept}
+use Rattle.stack_recovery.specs.PassPieces.{Scanned, way_kept}
 use Rattle.stack_recovery.specs.declared.way.Way.{Way}
 use Rattle.stack_recovery.specs.declared.way.Way.TheVariants.{Backward, Forward, Turned}
 
@@ -20,6 +20,6 @@ low_of (Backward low top) end = low
 low_of other end = end
 
 -- the way after sectors that were read before the pass, or backwards by it
-abbrev pub way_past : Way → ℕ → ℕ → Way
-way_past (Backward low end) turned at = Forward
-way_past other turned at = way_kept turned at
+abbrev pub way_past : Scanned → Way → ℕ → Way
+way_past scan (Backward low end) at = Forward
+way_past scan other at = way_kept scan at

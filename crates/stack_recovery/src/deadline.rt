@@ -23,8 +23,8 @@ pub struct FirstPass {
 }
 
 /// A pass over a mapped device by single sectors: to its last sector, or up to a deadline. With `no_scrape` it reads a run of
-/// unread sectors only from its beginning to its first lost sector, and from its last lost sector to its end. A run that begins at
-/// sector `turned`, before which an earlier pass ended, it only reads from its last lost sector to its end; 0 if there is none.
+/// unread sectors only from its beginning to its first lost sector, and from its last lost sector to its end; and one that begins at
+/// sector `turned`, where an earlier pass ended, only from its last lost sector to its end. There is none if that is 0.
 #[derive(Clone, Copy)]
 pub struct DevicePass {
     pub device: DevId,

@@ -118,7 +118,7 @@ fn go_over_by<D: BlockDev, O: BlockDev, L: Listing, P: Progress>(
             tally.close(listing);
             ahead.pass(run.count);
             at += run.count;
-            way = way_past(way, pass.turned, at);
+            way = way_past(pass, way, at);
         } else if is_forward(way) {
             tell(progress, at, sectors);
             let piece = piece_at(stack.config(), d, at, at + run.count, 1);

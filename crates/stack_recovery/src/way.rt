@@ -1,7 +1,10 @@
 //! The way that a pass by single sectors goes on.
 ghost use Rattle.std.specs.Prelude.{◌≡◌, ◌||◌};
 ghost use Rattle.stack_recovery.specs.PassPieces.{way_lost, way_probed, way_trimmed};
+ghost use Rattle.stack_recovery.specs.Recoveries.{scanned_by};
 ghost use Rattle.stack_recovery.specs.Ways.{is_copied, is_forward, low_of, way_past};
+
+use crate::deadline::DevicePass;
 
 /// The way that a pass goes on from the sector to which it has come.
 #[derive(Clone, Copy, Debug, PartialEq, Eq)]
@@ -75,14 +78,14 @@ pub(crate) fn way_lost(no_scrape: bool) -> Way
 }
 
 /// Returns the way after the sectors before sector `at`, which were read before the pass, or backwards by it.
-pub(crate) fn way_past(way: Way, turned: u64, at: u64) -> Way
-    ensures { result ≡ way_past way turned at }
+pub(crate) fn way_past(pass: DevicePass, way: Way, at: u64) -> Way
+    ensures { result ≡ way_past (scanned_by pass) way at }
 {
     match way {
         Way::Backward { .. } => Way::Forward,
         _ => {
-            if at == turned {
-                Way::Turned
+            if at == pass.turned {
+                way_lost(pass.no_scrape)
             } else {
                 Way::Forward
             }

@@ -20,8 +20,8 @@ use Rattle.stack_recovery.specs.Alike.{AreAlike}
 use Rattle.stack_recovery.specs.Laws.{AreSure, MarksAreMeant, SurveysAreMeant, meant_state, meant_states}
 use Rattle.stack_recovery.specs.declared.lost_run.Loss.TheVariants.{Lost, Unscraped}
 use Rattle.stack_recovery.specs.PassLaws.{AreScraped, IsScraped}
-use Rattle.stack_recovery.specs.PassPieces.{ArePassPieces, Pass}
-use Rattle.stack_recovery.specs.Surveys.{Finding, IsPieceSurveyed, IsSurveyOver, PieceRead, SectorState, again, all_states, had, kept, lost, probed, states_found, states_of, trimmed}
+use Rattle.stack_recovery.specs.PassPieces.{ArePassPieces, Pass, Scanned}
+use Rattle.stack_recovery.specs.Surveys.{Finding, IsPieceSurveyed, IsSurveyOver, PieceRead, SectorState, again, all_states, copied, had, kept, lost, probed, states_found, states_of, trimmed}
 use Rattle.stack_recovery.proofs.PieceLemmas.{passes-scrape}
 use Rattle.stack_recovery.proofs.lemmas.LostLemmas.{span-fault}
 
@@ -105,7 +105,7 @@ module _ (d first : ℕ) (w : StackRecord) (sure : AreSure w.config (λ i. stand
   meant-lost NoMemory p alike kind = absurd (kind refl)
 
   -- one of these sectors
-  lost-each : (fault : IoFault) → EachBytes w d first n (Err fault) after → AreAlike w.config d first n → fault ≢ NoMemory → (k : ℕ) → k < n → meant_state (sector w.config (steady_images w.leaves) (mapped d) (first + k)) ≡ Some (Lost fault)
+  pub lost-each : (fault : IoFault) → EachBytes w d first n (Err fault) after → AreAlike w.config d first n → fault ≢ NoMemory → (k : ℕ) → k < n → meant_state (sector w.config (steady_images w.leaves) (mapped d) (first + k)) ≡ Some (Lost fault)
   lost-each fault p alike kind k low =
       sym (meant-get (sector w.config (steady_images w.leaves) (mapped d)) first n k low) ∙ ap (λ (l : List SectorState). get_or l k None) (meant-lost fault p alike kind)
       ∙ get_or-replicate {A = SectorState} n k (Some (Lost fault)) None low
@@ -123,6 +123,7 @@ module _ (marks : List Bool) (d first : ℕ) (w : StackRecord) (known : MarksAre
   meant-piece (again fault) scraped p = refl
   meant-piece (probed behind bytes) scraped p = refl
   meant-piece (trimmed behind fault) scraped p = absurd scraped
+  meant-piece copied scraped p = absurd scraped
   meant-piece kept scraped p = sym (ap (meant_states at first) (length-replicate {A = SectorState} n None) ∙ meant-each at first n None (λ k low. known (first + k) (p.marked k low)))
 
 -- ---- what a read leaves
@@ -153,6 +154,7 @@ piece-left marks d first w n (lost fault) after p sure = read-left d w after p.a
 piece-left marks d first w n (again fault) after p sure = read-left d w after p.answered.any.moved p.answered.any.config sure
 piece-left marks d first w n (probed behind bytes) after p sure = read-left d w after p.answered.any.moved p.answered.any.config sure
 piece-left marks d first w n (trimmed behind fault) after p sure = read-left d w after p.answered.any.moved p.answered.any.config sure
+piece-left marks d first w n copied after p sure = same-left d w after p.answered sure
 piece-left marks d first w n kept after p sure = same-left d w after p.answered sure
 
 -- what a sector means afterwards
@@ -181,65 +183,7 @@ surveys-meant marks d first w (r ∷ more) w' s scraped known sure =
     ap (λ (l : List SectorState). l ++ all_states more) head ∙ ap (λ (l : List SectorState). meant_states at first n ++ l) tail
     ∙ sym (ap (meant_states at first) (length-append (states_of r) (all_states more)) ∙ meant-add at first n m)
 
--- ---- the sectors of a scan
-
--- the state of a sector that was read is what it means, unless it is unscraped
-abbrev pub IsMeantState : SectorState → SectorState → Type 0
-IsMeantState None meant = meant ≡ None
-IsMeantState (Some (Lost fault)) meant = meant ≡ Some (Lost fault)
-IsMeantState (Some (Unscraped fault)) meant = Unit {0}
-
-piece-each : (marks : List Bool) (d first : ℕ) (w : StackRecord) → AreSure w.config (λ i. stands_on w.config i (mapped d)) w.leaves → (n : ℕ) (found : Finding) (after : StackRecord)
-    → IsPieceSurveyed marks d first w (record { count = n; found = found; after = after }) → (k : ℕ) → k < length (states_found n found) → get_or marks (first + k) false ≡ false
-    → IsMeantState (get_or (states_found n found) k None) (meant_state (sector w.config (steady_images w.leaves) (mapped d) (first + k)))
-piece-each marks d first w sure n (had bytes) after p k low new =
-    let few : k < n = omega (arith, low, length-replicate {A = SectorState} n None) in
-    subst (λ (x : SectorState). IsMeantState x (meant_state (sector w.config (steady_images w.leaves) (mapped d) (first + k)))) (sym (get_or-replicate {A = SectorState} n k None None few))
-    (meant-byte (sector w.config (steady_images w.leaves) (mapped d)) first n bytes (p.answered.steady (record { steady = sure.steady; agrees = λ meets. sure.agrees })).exact k few)
-piece-each marks d first w sure n (lost fault) after p k low new =
-    let few : k < n = omega (arith, low, length-replicate {A = SectorState} n (Some (Lost fault))) in
-    subst (λ (x : SectorState). IsMeantState x (meant_state (sector w.config (steady_images w.leaves) (mapped d) (first + k)))) (sym (get_or-replicate {A = SectorState} n k (Some (Lost fault)) None few))
-    (lost-each d first w sure n after fault p.answered p.may.0 p.may.1 k few)
-piece-each marks d first w sure n (again fault) after p k low new = absurd (omega (arith, low))
-piece-each marks d first w sure n (probed behind bytes) after p k low new = absurd (omega (arith, low))
-piece-each marks d first w sure n (trimmed behind fault) after p k low new = elim (cases_lt k behind) [
-  | inl before ↦
-      subst (λ (x : SectorState). IsMeantState x (meant_state (sector w.config (steady_images w.leaves) (mapped d) (first + k))))
-      (sym (get_or_append_left (replicate behind (Some (Unscraped fault))) (replicate (n - behind) (Some (Lost fault))) None k (omega (arith, before, front-length)) ∙ get_or-replicate {A = SectorState} behind k (Some (Unscraped fault)) None before)) tt
-  | inr from ↦
-      let here : first + behind + (k - behind) ≡ first + k = omega (arith, from) in
-      let few : k - behind < n - behind = omega (arith, from, low, both-length, p.may.0) in
-      subst (λ (x : SectorState). IsMeantState x (meant_state (sector w.config (steady_images w.leaves) (mapped d) (first + k))))
-      (sym (get_or-append_right (replicate behind (Some (Unscraped fault))) (replicate (n - behind) (Some (Lost fault))) behind k None front-length from ∙ get_or-replicate {A = SectorState} (n - behind) (k - behind) (Some (Lost fault)) None few))
-      (ap (λ (t : ℕ). meant_state (sector w.config (steady_images w.leaves) (mapped d) t)) (sym here) ∙ lost-each d (first + behind) w sure (n - behind) after fault p.answered p.may.1.0 p.may.1.1 (k - behind) few)
-]
-  where
-    front-length : length (replicate behind (Some (Unscraped fault))) ≡ behind
-    front-length = length-replicate {A = SectorState} behind (Some (Unscraped fault))
-
-    both-length : length (replicate behind (Some (Unscraped fault)) ++ replicate (n - behind) (Some (Lost fault))) ≡ behind + (n - behind)
-    both-length =
-        length-append (replicate behind (Some (Unscraped fault))) (replicate (n - behind) (Some (Lost fault)))
-        ∙ ap₂ (λ (x y : ℕ). x + y) front-length (length-replicate {A = SectorState} (n - behind) (Some (Lost fault)))
-piece-each marks d first w sure n kept after p k low new =
-    absurd (false≢true (sym new ∙ p.marked k (omega (arith, low, length-replicate {A = SectorState} n None))))
-
-pub survey-each : (marks : List Bool) (d first : ℕ) (w : StackRecord) (reads : List PieceRead) (w' : StackRecord) → IsSurveyOver marks d first w reads w' → AreSure w.config (λ i. stands_on w.config i (mapped d)) w.leaves
-    → (k : ℕ) → k < length (all_states reads) → get_or marks (first + k) false ≡ false → IsMeantState (get_or (all_states reads) k None) (meant_state (sector w.config (steady_images w.leaves) (mapped d) (first + k)))
-survey-each marks d first w [] w' s sure k low new = absurd (omega (arith, low))
-survey-each marks d first w (r ∷ more) w' s sure k low new = elim (cases_lt k (length (states_of r))) [
-  | inl here ↦
-      subst (λ (x : SectorState). IsMeantState x (meant_state (sector w.config (steady_images w.leaves) (mapped d) (first + k)))) (sym (get_or_append_left (states_of r) (all_states more) None k here))
-      (piece-each marks d first w sure r.count r.found r.after s.0 k here new)
-  | inr past ↦
-      let left : IsLeft d w r.after = piece-left marks d first w r.count r.found r.after s.0 sure in
-      let n : ℕ = length (states_of r) in
-      let at : first + n + (k - n) ≡ first + k = omega (arith, past) in
-      let few : k - n < length (all_states more) = omega (arith, past, low, length-append (states_of r) (all_states more)) in
-      let rest = survey-each marks d (first + n) r.after more w' s.1 left.sure (k - n) few (ap (λ (t : ℕ). get_or marks t false) at ∙ new) in
-      subst (λ (x : SectorState). IsMeantState x (meant_state (sector w.config (steady_images w.leaves) (mapped d) (first + k)))) (sym (get_or-append_right (states_of r) (all_states more) n k None refl past))
-      (subst (λ (m : SectorState). IsMeantState (get_or (all_states more) (k - n) None) m) (left-state d w r.after (first + n + (k - n)) left ∙ ap (λ (t : ℕ). meant_state (sector w.config (steady_images w.leaves) (mapped d) t)) at) rest)
-]
+-- ---- a pass that scrapes
 
 -- a pass that scrapes leaves none unscraped
 unscraped-piece : (n : ℕ) (found : Finding) (k : ℕ) (fault : IoFault) → IsScraped found → k < length (states_found n found) → get_or (states_found n found) k None ≡ Some (Unscraped fault) → ⊥
@@ -250,6 +194,7 @@ unscraped-piece n (lost by) k fault scraped low e =
 unscraped-piece n (again by) k fault scraped low e = absurd (omega (arith, low))
 unscraped-piece n (probed behind bytes) k fault scraped low e = absurd (omega (arith, low))
 unscraped-piece n (trimmed behind by) k fault scraped low e = absurd scraped
+unscraped-piece n copied k fault scraped low e = absurd scraped
 unscraped-piece n kept k fault scraped low e =
     let none : None ≡ Some (Unscraped fault) = sym (get_or-replicate {A = SectorState} n k None None (omega (arith, low, length-replicate {A = SectorState} n None))) ∙ e in cc
 
@@ -262,8 +207,8 @@ unscraped-none (r ∷ more) k fault scraped low e = elim (cases_lt k (length (st
       unscraped-none more (k - n) fault scraped.1 (omega (arith, past, low, length-append (states_of r) (all_states more))) (sym (get_or-append_right (states_of r) (all_states more) n k None refl past) ∙ e)
 ]
 
-pub pass-unscraped : (p : Pass) (reads : List PieceRead) (k : ℕ) (fault : IoFault) → ArePassPieces false p reads → k < length (all_states reads) → get_or (all_states reads) k None ≡ Some (Unscraped fault) → ⊥
-pass-unscraped p reads k fault pieces low e = unscraped-none reads k fault (passes-scrape p reads pieces) low e
+pub pass-unscraped : (scan : Scanned) (p : Pass) (reads : List PieceRead) (k : ℕ) (fault : IoFault) → scan.no_scrape ≡ false → ArePassPieces scan p reads → k < length (all_states reads) → get_or (all_states reads) k None ≡ Some (Unscraped fault) → ⊥
+pass-unscraped scan p reads k fault scrapes pieces low e = unscraped-none reads k fault (passes-scrape scan p reads scrapes pieces) low e
 
 -- ---- what a scan leaves
 

@@ -11,7 +11,7 @@ use Rattle.stack_recovery.specs.Laws.{AreSure, meant_state}
 use Rattle.stack_recovery.specs.Skims.{AreSkims, IsSkimFound, IsSkimOver, Skim, failed_of, is_failed, is_read, marks_of, skim_failed, skim_marks}
 use Rattle.stack_recovery.specs.PassLaws.{AreUnskipped}
 use Rattle.stack_recovery.specs.PassPieces.{Pass}
-use Rattle.stack_recovery.specs.Surveys.{Finding, IsPieceSurveyed, again, had, kept, lost, probed, trimmed}
+use Rattle.stack_recovery.specs.Surveys.{Finding, IsPieceSurveyed, again, copied, had, kept, lost, probed, trimmed}
 use Rattle.stack_recovery.proofs.AheadLemmas.{marks-none}
 use Rattle.stack_recovery.proofs.SkimLawLemmas.{still-none, sweeps-all}
 use Rattle.stack_recovery.proofs.lemmas.MeantLemmas.{IsLeft, left-state, meant-byte, piece-left, same-left, then-left}
@@ -39,6 +39,7 @@ piece-known before d first w n (lost fault) after p sure k low is new = absurd (
 piece-known before d first w n (again fault) after p sure k low is new = absurd (false≢true is)
 piece-known before d first w n (probed behind bytes) after p sure k low is new = absurd (false≢true is)
 piece-known before d first w n (trimmed behind fault) after p sure k low is new = absurd (false≢true is)
+piece-known before d first w n copied after p sure k low is new = absurd (false≢true is)
 piece-known before d first w n kept after p sure k low is new = absurd (false≢true (sym new ∙ p.marked k low))
 
 -- of a piece and those after it
@@ -78,6 +79,7 @@ failed-found p first wanted n (lost fault) skip h e = absurd h
 failed-found p first wanted n (again fault) skip h e = refl
 failed-found p first wanted n (probed behind bytes) skip h e = absurd h
 failed-found p first wanted n (trimmed behind fault) skip h e = absurd h
+failed-found p first wanted n copied skip h e = absurd h
 failed-found p first wanted n kept skip h e = absurd (false≢true (sym e))
 
 -- of a pass that skips nothing each sector was read, now or before, or is in a failed piece
