@@ -12,7 +12,7 @@ use Rattle.stack_recovery.specs.Surveys.{all_states}
 use Rattle.scan_commands.specs.declared.phase.Phase.{Phase}
 use Rattle.scan_commands.specs.declared.phase.Phase.TheVariants.{Retry, Scrape, Skim, Sweep, Trim}
 use Rattle.scan_commands.specs.declared.turn_reads.ReadMap.{ReadMap}
-use Rattle.scan_commands.specs.Turns.{IsTurn, Kept, Progressed, ReadsLeft, ReadsSectors, Turns, asked_marks, begins, goes_on, passes, scan_in}
+use Rattle.scan_commands.specs.Turns.{IsTurn, Kept, Progressed, ReadsLeft, ReadsSectors, Turns, asked_marks, begins, goes_on, passes, scan_from, scan_in}
 use Rattle.scan_commands.proofs.LostSectorLemmas.{between-higher, in-behind}
 use Rattle.scan_commands.proofs.LostTurnLemmas.{AreTold, size-turn, told-turn}
 use Rattle.scan_commands.proofs.TurnLemmas.{is_large}
@@ -46,7 +46,7 @@ keeps-more (Some before) (Some after) found more is keeps = let same : before �
 found-turn : {S : Type 0} (k : Kept S) (phase : Phase) (old new : Progressed S) (t : IsTurn k phase old new) → is_large phase ≡ false → length (marks old.runs) ≡ k.sectors → new.sides.printed.failed ≡ false
     → (old.sides.printed.failed ≡ false → IsFound old) → IsFound new
 found-turn k phase old new t later size whole before =
-    let left = reads-later phase old.skip (asked_marks phase t.span k.sectors old.runs) k.scan old.sides t.made t.left later t.reads in
+    let left = reads-later phase old.skip (asked_marks phase t.span k.sectors old.runs) (scan_from k old) old.sides t.made t.left later t.reads in
     let goes = left.1 in
     let printed : new.sides.printed ≡ t.left.printed = ap (λ (s : Sides). s.printed) t.on_medium in
     let ok : t.left.printed.failed ≡ false = sym (ap (λ (l : Listed). l.failed) printed) ∙ whole in

@@ -1,6 +1,7 @@
 -- The last pass, whose lost runs are kept before they are reported.
 use Rattle.std.proofs.Common.{◌≡◌, ℕ, Bool, false, List, subst, Option}
 use Rattle.block_device.specs.Device.{Device}
+use Rattle.rescue_map.specs.declared.map.Run.{Run}
 use Rattle.stack_rules.specs.Names.{mapped, size}
 use Rattle.stack_rules.specs.Records.{Configuration}
 use Rattle.stack_engine.specs.Stacks.{StackRecord}
@@ -11,20 +12,19 @@ use Rattle.stack_recovery.specs.Recoveries.{Sides, sides}
 use Rattle.stack_recovery.specs.PassPieces.{scanned}
 use Rattle.scan_commands.specs.declared.phase.Phase.{Phase}
 use Rattle.scan_commands.specs.declared.rescue_fault.PassFault.{PassFault}
-use Rattle.scan_commands.specs.declared.turn_reads.ReadMap.{ReadMap}
 use Rattle.scan_commands.specs.MapFiles.{MapPathRecord}
 use Rattle.scan_commands.specs.PassesInTurns.{AfterTurns, EndsLast, ReportsLast, nothing, pass_from}
 use Rattle.scan_commands.specs.Turns.{Kept, ReadsInTurns, Replaces, kept}
 use Rattle.scan_commands.specs.TurnEnds.{IsPassTurnsEnd}
 
-pub reads-kept : {S : Type 0} (k : Kept S) (phase : Phase) (old : AfterTurns S) (images : S) (stack : StackRecord) (out : Device) (made : ReadMap) (before : Listed) (runs : List LostRun) (failed : Bool)
+pub reads-kept : {S : Type 0} (k : Kept S) (phase : Phase) (old : AfterTurns S) (images : S) (stack : StackRecord) (out : Device) (made : List Run) (before : Listed) (runs : List LostRun) (failed : Bool)
     → before ≡ nothing → failed ≡ false → ReadsInTurns k phase (pass_from phase k.sectors old before) images (sides stack out (kept_runs runs failed)) made
     → ReadsInTurns k phase (pass_from phase k.sectors old nothing) images (sides stack out (kept_runs runs false)) made
 reads-kept k phase old images stack out made before runs failed none whole reads =
     subst (λ (l : Listed). ReadsInTurns k phase (pass_from phase k.sectors old l) images (sides stack out (kept_runs runs false)) made) none
     (subst (λ (b : Bool). ReadsInTurns k phase (pass_from phase k.sectors old before) images (sides stack out (kept_runs runs b)) made) whole reads)
 
-pub reads-from : {S : Type 0} (k : Kept S) (phase : Phase) (old : AfterTurns S) (images : S) (stack : StackRecord) (out : Device) (made : ReadMap) (before after : Listed)
+pub reads-from : {S : Type 0} (k : Kept S) (phase : Phase) (old : AfterTurns S) (images : S) (stack : StackRecord) (out : Device) (made : List Run) (before after : Listed)
     → before ≡ nothing → ReadsInTurns k phase (pass_from phase k.sectors old before) images (sides stack out after) made → ReadsInTurns k phase (pass_from phase k.sectors old nothing) images (sides stack out after) made
 reads-from k phase old images stack out made before after none reads =
     subst (λ (l : Listed). ReadsInTurns k phase (pass_from phase k.sectors old l) images (sides stack out after) made) none reads

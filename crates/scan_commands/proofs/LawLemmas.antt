@@ -49,13 +49,13 @@ read-size w file sectors made (inr new) = unread-size sectors made new.unread
 -- ---- the passes
 
 pub silent-size : {S : Type 0} (k : Kept S) (phase : Phase) (old new : AfterTurns S) → IsSilentPass k phase old new → length (marks old.left.map) ≡ k.sectors → length (marks new.left.map) ≡ k.sectors
-silent-size k phase old new p size = size-turns k phase (pass_from phase k.sectors old p.0) p.3 size
+silent-size k phase old new p size = size-turns k phase (pass_from phase k.sectors old p.0) p.4 size
 
 sweeps-size : {S : Type 0} (k : Kept S) (old new : AfterTurns S) → SweepsInTurns k old new → length (marks old.left.map) ≡ k.sectors → length (marks new.left.map) ≡ k.sectors
 sweeps-size k old new p size = silent-size k Sweep p.between new p.sweeps (silent-size k Skim old p.between p.skims size)
 
 pub kept-size : {S : Type 0} (k : Kept S) (phase : Phase) (old new : AfterTurns S) (found : List LostRun) → KeepsTurns k phase old new found → length (marks old.left.map) ≡ k.sectors → length (marks new.left.map) ≡ k.sectors
-kept-size k phase old new found t size = ap (λ (l : List Run). length (marks l)) t.map ∙ size-turns k phase (pass_from phase k.sectors old nothing) t.reads size
+kept-size k phase old new found t size = ap (λ (l : List Run). length (marks l)) t.map ∙ size-turns k phase (pass_from phase k.sectors old nothing) t.reads.2 size
 
 steps-size : {S : Type 0} (k : Kept S) (old : AfterTurns S) {n : ℕ} {new : AfterTurns S} → Steps (IsSilentTurns k) old n new → length (marks old.left.map) ≡ k.sectors → length (marks new.left.map) ≡ k.sectors
 steps-size k old no_step size = size
@@ -68,20 +68,20 @@ either-lost true false told = refl
 either-lost true true told = absurd (false≢true (sym (told refl)))
 
 last-unrecovered : {S : Type 0} (k : Kept S) (phase : Phase) (known : List LostRun) (old : AfterTurns S) (printed : Listed) (images : S) (new : Sides) (counts : Counts) (r : ReportsLast k phase known old printed images new counts)
-    → is_large phase ≡ false → length (marks old.left.map) ≡ k.sectors → (s : ℕ) → s < k.sectors → is_in (reported r.made.map known r.found) s ≡ not (get_or (marks r.made.map) s false)
+    → is_large phase ≡ false → length (marks old.left.map) ≡ k.sectors → (s : ℕ) → s < k.sectors → is_in (reported r.made known r.found) s ≡ not (get_or (marks r.made) s false)
 last-unrecovered k phase known old printed images new counts r later size s low =
     let first = pass_from phase k.sectors old nothing in
-    let p = found-turns k phase first r.reads later size refl refl refl in
-    let whole : length (marks r.made.map) ≡ k.sectors = size-turns k phase first r.reads size in
+    let p = found-turns k phase first r.reads.2 later size refl refl refl in
+    let whole : length (marks r.made) ≡ k.sectors = size-turns k phase first r.reads.2 size in
     let same : r.found ≡ p.found = some-same r.found p.found p.kept in
-    let status : Status = get_or (statuses r.made.map) s Untried in
-    let states : List SectorState = joined_states 0 (statuses r.made.map) known r.found in
+    let status : Status = get_or (statuses r.made) s Untried in
+    let states : List SectorState = joined_states 0 (statuses r.made) known r.found in
     let here : 0 + s ≡ s = omega arith in
-    let few : s < length (statuses r.made.map) = omega (arith, low, statuses-length r.made.map, whole) in
-    let mark : get_or (marks r.made.map) s false ≡ is_recovered status = marks-get r.made.map s (omega (arith, low, whole)) in
+    let few : s < length (statuses r.made) = omega (arith, low, statuses-length r.made, whole) in
+    let mark : get_or (marks r.made) s false ≡ is_recovered status = marks-get r.made s (omega (arith, low, whole)) in
     let told : is_in r.found s ≡ true → is_recovered status ≡ false = λ is. sym mark ∙ p.told.told s low (ap (λ (l : List LostRun). is_in l s) (sym same) ∙ is) in
     sym (ap (is_in (runs_of is_same_loss 0 states)) here) ∙ runs-in 0 states s
-    ∙ ap (λ (x : SectorState). is_some x) (joined-at 0 (statuses r.made.map) known r.found s few ∙ ap (joined_state status known r.found) here)
+    ∙ ap (λ (x : SectorState). is_some x) (joined-at 0 (statuses r.made) known r.found s few ∙ ap (joined_state status known r.found) here)
     ∙ joined-lost status known r.found 0 k.sectors s (subst (λ (l : List LostRun). AreBetween 0 k.sectors l) (sym same) p.told.between)
     ∙ either-lost (is_recovered status) (is_in r.found s) told
     ∙ ap not (sym mark)

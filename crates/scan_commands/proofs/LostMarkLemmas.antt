@@ -8,7 +8,7 @@ use Rattle.rescue_map.specs.Maps.{spliced_marks}
 use Rattle.stack_recovery.specs.Recoveries.{is_had}
 use Rattle.stack_engine.specs.Stacks.{StackRecord}
 use Rattle.stack_recovery.specs.declared.lost_run.Loss.TheVariants.{Lost, Unscraped}
-use Rattle.stack_recovery.specs.Surveys.{Finding, IsSurveyOver, MayFind, PieceRead, SectorState, again, all_states, had, kept, lost, mark_of, probed, states_found, states_of, trimmed}
+use Rattle.stack_recovery.specs.Surveys.{Finding, IsSurveyOver, MayFind, PieceRead, SectorState, again, all_states, copied, had, kept, lost, mark_of, probed, states_found, states_of, trimmed}
 
 -- ---- marks of single sectors
 
@@ -85,4 +85,5 @@ survey-marked before d first w (r ∷ more) w' j survey is = elim (cases_lt j (l
     piece n (again fault) may marked low = absurd (omega (arith, low))
     piece n (probed behind bytes) may marked low = absurd (omega (arith, low))
     piece n (trimmed behind fault) may marked low = absurd (false≢true (sym (marked j (omega (arith, low, may.0, ends behind n (Some (Unscraped fault)) (Some (Lost fault))))) ∙ is))
+    piece n copied may marked low = get_or-replicate {A = SectorState} n j None None (omega (arith, low, length-replicate {A = SectorState} n None))
     piece n kept may marked low = get_or-replicate {A = SectorState} n j None None (omega (arith, low, length-replicate {A = SectorState} n None))

@@ -18,12 +18,15 @@ use Rattle.rescue_map.proofs.lemmas.StatusLemmas.{marks-get, stepped-get, untake
 use Rattle.runs.specs.Runs.{runs_of}
 use Rattle.stack_engine.specs.Stacks.{StackRecord}
 use Rattle.stack_recovery.specs.LostRuns.{LostRun, is_same_loss}
+use Rattle.stack_recovery.specs.PassPieces.{IsWayInside}
+use Rattle.stack_recovery.specs.declared.way.Way.{Way}
+use Rattle.stack_recovery.specs.declared.way.Way.TheVariants.{Backward, Forward, Turned}
 use Rattle.stack_recovery.specs.Recoveries.{is_had}
 use Rattle.stack_recovery.specs.Surveys.{IsSurveyOver, PieceRead, SectorState, all_states}
 use Rattle.scan_commands.specs.declared.phase.Phase.{Phase}
 use Rattle.scan_commands.specs.declared.phase.Phase.TheVariants.{Retry, Scrape, Skim, Sweep, Trim}
 use Rattle.scan_commands.specs.Laws.{is_in}
-use Rattle.scan_commands.specs.Turns.{IsTurn, Kept, Progressed, asked_marks, span_between, step_of}
+use Rattle.scan_commands.specs.Turns.{IsTurn, Kept, Progressed, StepsBackwards, asked_marks, span_between, step_of}
 use Rattle.scan_commands.proofs.TurnLemmas.{up-to-few}
 use Rattle.scan_commands.proofs.LostSectorLemmas.{AreBetween, between-append, in-append, in-before, in-behind, runs-in, runs-span}
 use Rattle.scan_commands.proofs.LostMarkLemmas.{had-lost, spliced-before, spliced-behind, spliced-inside, spliced-size, survey-marked}
@@ -100,11 +103,37 @@ module _ {S : Type 0} (k : Kept S) (phase : Phase) (old new : Progressed S) (t :
   abbrev was : ℕ → Status
   was s = get_or (statuses old.runs) s Untried
 
-  mark-new : (s : ℕ) → s < k.sectors → get_or (marks new.runs) s false ≡ is_recovered (status_after step (is_inside span s) (was s) (get_or spliced s false) (get_or bads s false))
-  mark-new s low =
+  forwards-all : length (marks t.forwards) ≡ k.sectors
+  forwards-all = t.same ∙ size
+
+  -- the sectors before those that were read backwards are as the turn found them
+  unmoved-by : (way : Way) → IsWayInside (length made) way k.sectors → StepsBackwards step k.sectors way t.forwards new.runs → (s : ℕ) → s < length made → get_or (statuses new.runs) s Untried ≡ get_or (statuses t.forwards) s Untried
+  unmoved-by Forward inside same s low = ap (λ (l : List Run). get_or (statuses l) s Untried) same
+  unmoved-by Turned inside same s low = ap (λ (l : List Run). get_or (statuses l) s Untried) same
+  unmoved-by (Backward from end) inside h s low =
       let here : 0 + s ≡ s = omega arith in
+      let behind : Span = span_between from end in
+      let bounds : from + (end - from) ≤ k.sectors = omega (arith, inside.1, inside.2) in
+      let all : length (marks h.0) ≡ k.sectors = ap length h.1 ∙ length-replicate {A = Bool} k.sectors true in
+      let hads = spliced-size behind (marks t.forwards) (marks h.0) (omega (arith, bounds, forwards-all)) (omega (arith, bounds, all)) in
+      let lost = spliced-size behind (losts t.forwards) (losts h.0) (omega (arith, bounds, forwards-all, losts-length t.forwards)) (omega (arith, bounds, all, losts-length h.0)) in
+      ap (λ (l : List Status). get_or l s Untried) h.2
+      ∙ stepped-get step behind 0 (statuses t.forwards) (spliced_marks behind (marks t.forwards) (marks h.0)) (spliced_marks behind (losts t.forwards) (losts h.0)) s (omega (arith, low, inside.0, inside.1, inside.2, forwards-all, statuses-length t.forwards))
+          (omega (arith, low, inside.0, inside.1, inside.2, forwards-all, hads)) (omega (arith, low, inside.0, inside.1, inside.2, forwards-all, lost, losts-length t.forwards))
+      ∙ ap (λ (n : ℕ). status_after step (is_inside behind n) (get_or (statuses t.forwards) s Untried) (get_or (spliced_marks behind (marks t.forwards) (marks h.0)) s false) (get_or (spliced_marks behind (losts t.forwards) (losts h.0)) s false)) here
+      ∙ ap (λ (i : Bool). status_after step i (get_or (statuses t.forwards) s Untried) (get_or (spliced_marks behind (marks t.forwards) (marks h.0)) s false) (get_or (spliced_marks behind (losts t.forwards) (losts h.0)) s false))
+        (inside-before behind s (omega (arith, low, inside.0)))
+
+  unmoved : (s : ℕ) → s < new.at → get_or (statuses new.runs) s Untried ≡ get_or (statuses t.forwards) s Untried
+  unmoved s low = unmoved-by t.made.way t.behind t.map s (omega (arith, low, t.here))
+
+  mark-new : (s : ℕ) → s < new.at → get_or (marks new.runs) s false ≡ is_recovered (status_after step (is_inside span s) (was s) (get_or spliced s false) (get_or bads s false))
+  mark-new s before =
+      let here : 0 + s ≡ s = omega arith in
+      let low : s < k.sectors = omega (arith, before, few-inside) in
       marks-get new.runs s (omega (arith, low, size-turn))
-      ∙ ap (λ (l : List Status). is_recovered (get_or l s Untried)) t.map
+      ∙ ap is_recovered (unmoved s before)
+      ∙ ap (λ (l : List Status). is_recovered (get_or l s Untried)) t.stepped
       ∙ ap is_recovered (stepped-get step span 0 (statuses old.runs) spliced bads s (omega (arith, low, size, statuses-length old.runs)) (omega (arith, low, spliced-all)) (omega (arith, low, bads-all)))
       ∙ ap (λ (n : ℕ). is_recovered (status_after step (is_inside span n) (was s) (get_or spliced s false) (get_or bads s false))) here
 
@@ -114,7 +143,8 @@ module _ {S : Type 0} (k : Kept S) (phase : Phase) (old new : Progressed S) (t :
       let here : 0 + s ≡ s = omega arith in
       let low : s < k.sectors = omega (arith, to, few-inside) in
       let within : s < old.at + (new.at - old.at) = omega (arith, to, upto) in
-      ap (λ (l : List Status). get_or l s Untried) t.map
+      unmoved s to
+      ∙ ap (λ (l : List Status). get_or l s Untried) t.stepped
       ∙ stepped-get step span 0 (statuses old.runs) spliced bads s (omega (arith, low, size, statuses-length old.runs)) (omega (arith, low, spliced-all)) (omega (arith, low, bads-all))
       ∙ ap (λ (n : ℕ). status_after step (is_inside span n) (was s) (get_or spliced s false) (get_or bads s false)) here
       ∙ ap (λ (i : Bool). status_after step i (was s) (get_or spliced s false) (get_or bads s false)) (inside-within span s from within)
@@ -125,7 +155,7 @@ module _ {S : Type 0} (k : Kept S) (phase : Phase) (old new : Progressed S) (t :
   -- the sectors before the turn are as they were
   mark-before : (s : ℕ) → s < old.at → get_or (marks new.runs) s false ≡ get_or (marks old.runs) s false
   mark-before s low =
-      mark-new s (omega (arith, low, t.some, few-inside))
+      mark-new s (omega (arith, low, t.some))
       ∙ ap (λ (i : Bool). is_recovered (status_after step i (was s) (get_or spliced s false) (get_or bads s false))) (inside-before span s low)
       ∙ sym (marks-get old.runs s (omega (arith, low, t.some, few-inside, size)))
 
@@ -204,7 +234,7 @@ module _ {S : Type 0} (k : Kept S) (phase : Phase) (old new : Progressed S) (t :
         | inr from ↦
             let lost : is_in runs s ≡ true = sym (in-append found runs s ∙ ap (λ (x : Bool). x || is_in runs s) (in-behind 0 old.at found s p.between from)) ∙ is in
             let had : get_or spliced s false ≡ false = spliced-inside span (marks old.runs) made inside-old inside-made s from (omega (arith, low, upto)) ∙ made-get s (omega (arith, low, t.here)) ∙ ap not lost in
-            mark-new s (omega (arith, low, few-inside))
+            mark-new s low
             ∙ ap (λ (h : Bool). is_recovered (status_after step (is_inside span s) (was s) h (get_or bads s false))) had
             ∙ after-lost phase (is_inside span s) (was s) (get_or bads s false) (found-taken s from low lost) (inside-within span s from (omega (arith, low, upto)))
       ];

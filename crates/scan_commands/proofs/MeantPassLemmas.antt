@@ -20,7 +20,7 @@ use Rattle.stack_recovery.proofs.lemmas.MeantLemmas.{IsLeft, same-left}
 use Rattle.scan_commands.specs.MapFiles.{MapPathRecord}
 use Rattle.scan_commands.specs.declared.phase.Phase.{Phase}
 use Rattle.scan_commands.specs.declared.phase.Phase.TheVariants.{Sweep}
-use Rattle.scan_commands.specs.Turns.{IsSkipped, IsTurn, Kept, Progressed, Turns, asked_marks, begins, goes_on, passes, step_of, turn_len}
+use Rattle.scan_commands.specs.Turns.{IsSkipped, IsTurn, Kept, Progressed, Turns, asked_marks, begins, goes_on, passes, scan_from, step_of, turn_len}
 use Rattle.scan_commands.proofs.FoundRunLemmas.{reads-later}
 use Rattle.scan_commands.proofs.LostMarkLemmas.{spliced-inside, spliced-size}
 use Rattle.scan_commands.proofs.TurnLemmas.{is_large}
@@ -141,20 +141,20 @@ module _ {S : Type 0} (k : Kept S) (phase : Phase) (first now : Progressed S) (n
       keeps-none None = tt
       keeps-none (Some runs) = sym (append-nil runs)
 
-  single-by : is_large phase ≡ false → OneTurn k phase first now → FindsEach
-  single-by single (no_turn e) =
+  single-by : is_large phase ≡ false → first.turned ≡ 0 → OneTurn k phase first now → FindsEach
+  single-by single unturned (no_turn e) =
       finds-none (sym (ap (λ (p : Progressed S). p.sides) e)) (λ s low. absurd (omega (arith, low, end, start, ap (λ (p : Progressed S). p.at) e)))
-  single-by single (one_turn t) =
-      let left = reads-later phase first.skip (asked_marks phase t.span k.sectors first.runs) k.scan first.sides t.made t.left single t.reads in
+  single-by single unturned (one_turn t) =
+      let left = reads-later phase first.skip (asked_marks phase t.span k.sectors first.runs) (scan_from k first) first.sides t.made t.left single t.reads in
       let printed : now.sides.printed ≡ t.left.printed = ap (λ (x : Sides). x.printed) t.on_medium in
       record {
         states = all_states left.1.reads;
-        each = λ s low. single-turn k phase first now t none start size sure single left.0 left.1 s low;
+        each = λ s low. single-turn k phase first now t none start size sure single unturned left.0 left.1 s low;
         told = λ ok. subst (λ (l : Listed). KeepsMore first.sides.printed.runs l.runs (runs_of is_same_loss 0 (all_states left.1.reads))) (sym printed) (left.1.printed.listed (sym (ap (λ (l : Listed). l.failed) printed) ∙ ok));
       }
-  single-by single (one_skip t) =
+  single-by single unturned (one_skip t) =
       finds-none (sym (skip-sides k phase first now t none start size))
       (λ s low. single_other (skip-other k phase first now t none start size s low) (ap (λ (r : List Run). get_or (statuses r) s Untried) (skip-runs k phase first now t none start size)) refl)
 
-  pub single-pass : is_large phase ≡ false → Turns k phase first now → FindsEach
-  single-pass single turns = single-by single (one-turn k phase first none start size turns)
+  pub single-pass : is_large phase ≡ false → first.turned ≡ 0 → Turns k phase first now → FindsEach
+  single-pass single unturned turns = single-by single unturned (one-turn k phase first none start size turns)

@@ -176,20 +176,20 @@ module _ {S : Type 0} (k : Kept S) (w : StackRecord) (none : k.file ≡ None) (s
   silent-after : (phase : Phase) (old new : AfterTurns S) → IsSilentPass k phase old new → IsAfter old → IsAfter new
   silent-after phase old new p a = record {
     all = silent-size k phase old new p a.all;
-    left = then-left d w old.left.stack new.left.stack a.left (pass-left k phase (pass_from phase k.sectors old p.0) _ none refl refl a.all a.left.sure p.3);
+    left = then-left d w old.left.stack new.left.stack a.left (pass-left k phase (pass_from phase k.sectors old p.0) _ none refl refl a.all a.left.sure p.4);
   }
 
   large-after : (phase : Phase) (old new : AfterTurns S) (p : IsSilentPass k phase old new) → is_large phase ≡ true → (phase ≡ Sweep → (pass_from phase k.sectors old p.0).skip ≡ 0) → IsAfter old → (s : ℕ) → s < k.sectors
       → LargeStep phase (status_in old s) (status_in new s) (meant s)
   large-after phase old new p large sweeps a s low =
       subst (λ (x : SectorState). LargeStep phase (status_in old s) (status_in new s) x) (left-state d w old.left.stack s a.left)
-      (large-pass k phase (pass_from phase k.sectors old p.0) _ none refl refl a.all a.left.sure large sweeps p.3 s low)
+      (large-pass k phase (pass_from phase k.sectors old p.0) _ none refl refl a.all a.left.sure large sweeps p.4 s low)
 
   -- a pass by single sectors that reports nothing
   single-silent : (n : ℕ) (old new : AfterTurns S) (p : IsSilentTurns k n old new) → IsAfter old → (s : ℕ) → s < k.sectors → (known : SectorState) → AfterSteps n (status_in old s) (meant s) known → AfterScrape (status_in new s) (meant s)
   single-silent n old new p a s low known was =
       let phase = phase_after k.scan.no_scrape n in
-      let f = single-pass k phase (pass_from phase k.sectors old p.0) _ none refl refl a.all a.left.sure (single-after k.scan.no_scrape n scrapes) p.3 in
+      let f = single-pass k phase (pass_from phase k.sectors old p.0) _ none refl refl a.all a.left.sure (single-after k.scan.no_scrape n scrapes) refl p.4 in
       let found = get_or f.states s None in
       step-after k.scan.no_scrape n (status_in old s) (status_in new s) (meant s) known found scrapes was
       (subst (λ (x : SectorState). SingleStep phase (status_in old s) (status_in new s) x found) (left-state d w old.left.stack s a.left) (f.each s low))
@@ -211,14 +211,14 @@ module _ {S : Type 0} (k : Kept S) (w : StackRecord) (none : k.file ≡ None) (s
   trim-after : (old new : AfterTurns S) (known : List LostRun) → KeepsTurns k Trim old new known → IsAfter old → IsAfter new
   trim-after old new known p a = record {
     all = kept-size k Trim old new known p a.all;
-    left = then-left d w old.left.stack new.left.stack a.left (pass-left k Trim (pass_from Trim k.sectors old nothing) _ none refl refl a.all a.left.sure p.reads);
+    left = then-left d w old.left.stack new.left.stack a.left (pass-left k Trim (pass_from Trim k.sectors old nothing) _ none refl refl a.all a.left.sure p.reads.2);
   }
 
   trim-each : (old new : AfterTurns S) (known : List LostRun) → KeepsTurns k Trim old new known → IsAfter old → (s : ℕ) → s < k.sectors → AfterSweep (status_in old s) (meant s) → AfterTrim (status_in new s) (meant s) (state_in known s)
   trim-each old new known p a s low was =
-      let f = single-pass k Trim (pass_from Trim k.sectors old nothing) _ none refl refl a.all a.left.sure refl p.reads in
+      let f = single-pass k Trim (pass_from Trim k.sectors old nothing) _ none refl refl a.all a.left.sure refl refl p.reads.2 in
       let found = get_or f.states s None in
-      let made : Status = get_or (statuses p.made.map) s Untried in
+      let made : Status = get_or (statuses p.made) s Untried in
       let same : status_in new s ≡ made = ap (λ (l : List Run). get_or (statuses l) s Untried) p.map in
       let step = subst (λ (x : SectorState). SingleStep Trim (status_in old s) made x found) (left-state d w old.left.stack s a.left) (f.each s low) in
       subst (λ (x : SectorState). AfterTrim (status_in new s) (meant s) x) (sym (kept-state f.states known (f.told refl) s))
@@ -226,16 +226,16 @@ module _ {S : Type 0} (k : Kept S) (w : StackRecord) (none : k.file ≡ None) (s
 
   -- the last pass
   last-size : (passes : ℕ) (known : List LostRun) (old : AfterTurns S) (printed : Listed) (images : S) (new : Sides) (counts : Counts) (r : ReportsLast k (phase_after k.scan.no_scrape passes) known old printed images new counts)
-      → IsAfter old → length (marks r.made.map) ≡ k.sectors
-  last-size passes known old printed images new counts r a = let phase = phase_after k.scan.no_scrape passes in size-turns k phase (pass_from phase k.sectors old nothing) r.reads a.all
+      → IsAfter old → length (marks r.made) ≡ k.sectors
+  last-size passes known old printed images new counts r a = let phase = phase_after k.scan.no_scrape passes in size-turns k phase (pass_from phase k.sectors old nothing) r.reads.2 a.all
 
   last-each : (passes : ℕ) (known : List LostRun) (old : AfterTurns S) (printed : Listed) (images : S) (new : Sides) (counts : Counts) (r : ReportsLast k (phase_after k.scan.no_scrape passes) known old printed images new counts)
-      → IsAfter old → (s : ℕ) → s < k.sectors → AfterSteps passes (status_in old s) (meant s) (state_in known s) → joined_state (get_or (statuses r.made.map) s Untried) known r.found s ≡ meant s
+      → IsAfter old → (s : ℕ) → s < k.sectors → AfterSteps passes (status_in old s) (meant s) (state_in known s) → joined_state (get_or (statuses r.made) s Untried) known r.found s ≡ meant s
   last-each passes known old printed images new counts r a s low was =
       let phase = phase_after k.scan.no_scrape passes in
-      let f = single-pass k phase (pass_from phase k.sectors old nothing) _ none refl refl a.all a.left.sure (single-after k.scan.no_scrape passes scrapes) r.reads in
+      let f = single-pass k phase (pass_from phase k.sectors old nothing) _ none refl refl a.all a.left.sure (single-after k.scan.no_scrape passes scrapes) refl r.reads.2 in
       let found = get_or f.states s None in
-      let made : Status = get_or (statuses r.made.map) s Untried in
+      let made : Status = get_or (statuses r.made) s Untried in
       let step = subst (λ (x : SectorState). SingleStep phase (status_in old s) made x found) (left-state d w old.left.stack s a.left) (f.each s low) in
       ap (or_before made (state_in known s)) (kept-state f.states r.found (f.told refl) s) ∙ last-after k.scan.no_scrape passes (status_in old s) made (meant s) (state_in known s) found scrapes was step
 
@@ -262,7 +262,7 @@ states-meant relations state old new t m counts r scrapes sure =
     let swept = silent-after k w refl scrapes Sweep rescued.large.between rescued.swept rescued.large.sweeps skimmed in
     let trimmed = trim-after k w refl scrapes rescued.swept rescued.between rescued.known rescued.trims swept in
     let left = steps-after k w refl scrapes rescued.between trimmed rescued.again.0 in
-    let made = rescued.last.made.map in
+    let made = rescued.last.made in
     let all : length (statuses made) ≡ sectors = statuses-length made ∙ last-size k w refl scrapes rescued.passes rescued.known rescued.left m.old.printed new m.new counts rescued.last left in
     ext_get_or None (joined_states 0 (statuses made) rescued.known rescued.last.found) (meant_states at 0 sectors)
     (joined-length 0 (statuses made) rescued.known rescued.last.found ∙ all ∙ sym (meant-length at 0 sectors))

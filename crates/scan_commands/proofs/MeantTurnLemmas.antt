@@ -17,7 +17,7 @@ use Rattle.stack_engine.specs.Stacks.{StackRecord}
 use Rattle.stack_recovery.specs.declared.lost_run.Loss.TheVariants.{Lost, Unscraped as LeftUnscraped}
 use Rattle.stack_recovery.specs.declared.recovery.Counts.{Counts}
 use Rattle.stack_recovery.specs.Laws.{AreSure, meant_state}
-use Rattle.stack_recovery.specs.PassPieces.{ArePassPieces, Scanned, pass_over}
+use Rattle.stack_recovery.specs.PassPieces.{Scanned, pass_over}
 use Rattle.stack_recovery.specs.Recoveries.{GoesOverTo, Sides, is_had, is_lost}
 use Rattle.stack_recovery.specs.Skims.{AreSkims}
 use Rattle.stack_recovery.specs.Surveys.{SectorState, all_states}
@@ -27,7 +27,7 @@ use Rattle.scan_commands.specs.MapFiles.{MapPathRecord}
 use Rattle.scan_commands.specs.declared.phase.Phase.{Phase}
 use Rattle.scan_commands.specs.declared.phase.Phase.TheVariants.{Retry, Scrape, Skim, Sweep, Trim}
 use Rattle.scan_commands.specs.declared.turn_reads.ReadMap.{ReadMap}
-use Rattle.scan_commands.specs.Turns.{IsTurn, IsUpTo, Kept, Progressed, ReadsSectors, asked_marks, is_trim, scan_in, step_of, turn_len}
+use Rattle.scan_commands.specs.Turns.{IsTurn, IsUpTo, Kept, Progressed, ReadsSectors, asked_marks, is_trim, scan_from, scan_in, step_of, turn_len}
 use Rattle.scan_commands.proofs.LostMarkLemmas.{survey-marked}
 use Rattle.scan_commands.proofs.LostTurnLemmas.{asked-inside, status-new}
 use Rattle.scan_commands.proofs.TurnLemmas.{is_large}
@@ -141,7 +141,7 @@ module _ {S : Type 0} (k : Kept S) (phase : Phase) (old new : Progressed S) (t :
     pub turn-left : IsLeft k.scan.d old.sides.stack new.sides.stack
     turn-left =
         subst (λ (w : StackRecord). IsLeft k.scan.d old.sides.stack w) (sym (ap (λ (x : Sides). x.stack) t.on_medium))
-        (reads-left phase old.skip (asked_marks phase t.span k.sectors old.runs) k.scan old.sides t.made t.left t.reads sure)
+        (reads-left phase old.skip (asked_marks phase t.span k.sectors old.runs) (scan_from k old) old.sides t.made t.left t.reads sure)
 
     module _ (s : ℕ) (low : s < k.sectors) where
       abbrev was : Status
@@ -185,11 +185,11 @@ module _ {S : Type 0} (k : Kept S) (phase : Phase) (old new : Progressed S) (t :
         large-not : is_same was (step_of phase).takes ≡ true → get_or made s false ≡ false → (b : Bool) → bad ≡ b → LargeStep phase was now meant
         large-not taken had true is = large_failed (now-not taken had ∙ cond-true bad (step_of phase).failed (step_of phase).left is ∙ large-fails phase large)
         large-not taken had false is =
-            let skims : phase ≡ Skim = large-leaves phase old.skip asked k.scan old.sides t.made t.left large sweeps t.reads s (omega (arith, low, made-all)) had is in
+            let skims : phase ≡ Skim = large-leaves phase old.skip asked (scan_from k old) old.sides t.made t.left large sweeps t.reads s (omega (arith, low, made-all)) had is in
             large_left skims (now-not taken had ∙ cond-false bad (step_of phase).failed (step_of phase).left is ∙ ap (λ (p : Phase). (step_of p).left) skims)
 
         large-taken : is_same was (step_of phase).takes ≡ true → (h : Bool) → get_or made s false ≡ h → LargeStep phase was now meant
-        large-taken taken true had = large_had (now-had taken had) (large-known phase old.skip asked k.scan old.sides t.made t.left large t.reads sure s (fresh ∙ ap not taken) had)
+        large-taken taken true had = large_had (now-had taken had) (large-known phase old.skip asked (scan_from k old) old.sides t.made t.left large t.reads sure s (fresh ∙ ap not taken) had)
         large-taken taken false had = large-not taken had bad refl
 
         large-each : (taken : Bool) → is_same was (step_of phase).takes ≡ taken → LargeStep phase was now meant
@@ -201,8 +201,8 @@ module _ {S : Type 0} (k : Kept S) (phase : Phase) (old new : Progressed S) (t :
 
     -- ---- by a pass by single sectors
 
-    module _ (single : is_large phase ≡ false) (counts : Counts)
-        (goes : GoesOverTo (asked_marks phase t.span k.sectors old.runs) (scan_in phase k.scan) (length made) old.sides counts (Some t.made.map) t.left) (s : ℕ) (low : s < k.sectors) where
+    module _ (single : is_large phase ≡ false) (unturned : old.turned ≡ 0) (counts : Counts)
+        (goes : GoesOverTo (asked_marks phase t.span k.sectors old.runs) (scan_in phase (scan_from k old)) (length made) t.made.way old.sides counts (Some t.made.map) t.left) (s : ℕ) (low : s < k.sectors) where
       abbrev states : List SectorState
       states = all_states goes.reads
 
@@ -233,7 +233,7 @@ module _ {S : Type 0} (k : Kept S) (phase : Phase) (old new : Progressed S) (t :
           (now-not s low taken (made-get ∙ ap is_had e) ∙ cond-false (get_or (losts t.made.map) s false) (step_of phase).failed (step_of phase).left (bad-get ∙ ap is_lost e) ∙ trim-leaves phase trims)
       single-trims false trims fault taken e =
           let p = pass_over old.sides.stack.config k.scan.d marked in
-          absurd (pass-unscraped p goes.reads s fault (subst (λ (b : Bool). ArePassPieces b p goes.reads) trims goes.pieces) (omega (arith, low, states-all)) e)
+          absurd (pass-unscraped (scan_in phase (scan_from k old)) p goes.reads s fault trims unturned goes.pieces (omega (arith, low, states-all)) e)
 
       by-state : (x : SectorState) → get_or states s None ≡ x → IsMeantState x means → is_same before (step_of phase).takes ≡ true → SingleStep phase before after means (get_or states s None)
       by-state None e holds taken = single_had (now-had s low taken (made-get ∙ ap is_had e)) holds e
@@ -247,7 +247,7 @@ module _ {S : Type 0} (k : Kept S) (phase : Phase) (old new : Progressed S) (t :
       state-meant taken =
           let here : 0 + s ≡ s = omega arith in
           subst (λ (n : ℕ). IsMeantState (get_or states s None) (meant_at k.scan.d old.sides.stack n)) here
-          (survey-each marked k.scan.d 0 old.sides.stack goes.reads t.left.stack goes.survey sure s (omega (arith, low, states-all)) (ap (λ (n : ℕ). get_or marked n false) here ∙ fresh s low ∙ ap not taken))
+          (survey-each marked k.scan.d 0 old.sides.stack goes.reads t.left.stack goes.survey goes.pieces sure s (omega (arith, low, states-all)) (ap (λ (n : ℕ). get_or marked n false) here ∙ fresh s low ∙ ap not taken))
 
       state-none : is_same before (step_of phase).takes ≡ false → get_or states s None ≡ None
       state-none other =

@@ -28,13 +28,13 @@ module _ {S : Type 0} (k : Kept S) (none : k.file ≡ None) where
   turns-plain phase first (passes turns t) = ap (λ (x : Progressed S). x.images) t.same ∙ turns-plain phase first turns
 
   silent-plain : (phase : Phase) (old new : AfterTurns S) → IsSilentPass k phase old new → new.images ≡ old.images
-  silent-plain phase old new p = turns-plain phase (pass_from phase k.sectors old p.0) p.3
+  silent-plain phase old new p = turns-plain phase (pass_from phase k.sectors old p.0) p.4
 
   sweeps-plain : (old new : AfterTurns S) → SweepsInTurns k old new → new.images ≡ old.images
   sweeps-plain old new p = silent-plain Sweep p.between new p.sweeps ∙ silent-plain Skim old p.between p.skims
 
   kept-plain : (phase : Phase) (old new : AfterTurns S) (found : List LostRun) → KeepsTurns k phase old new found → new.images ≡ old.images
-  kept-plain phase old new found p = turns-plain phase (pass_from phase k.sectors old nothing) p.reads
+  kept-plain phase old new found p = turns-plain phase (pass_from phase k.sectors old nothing) p.reads.2
 
   steps-plain : (old : AfterTurns S) {n : ℕ} {new : AfterTurns S} → Steps (IsSilentTurns k) old n new → new.images ≡ old.images
   steps-plain old no_step = refl
@@ -65,7 +65,7 @@ module _ {S : Type 0} (k : Kept S) (none : k.file ≡ None) where
 
   last-plain : (phase : Phase) (old : AfterTurns S) (images : S) (stack : StackRecord) (out : Device) (fault : PassFault) → EndsLast k phase old images stack out fault → images ≡ old.images
   last-plain phase old images stack out fault (inl p) = end-plain phase (pass_from phase k.sectors old nothing) images _ fault p.1
-  last-plain phase old images stack out fault (inr p) = turns-plain phase (pass_from phase k.sectors old nothing) p.reads
+  last-plain phase old images stack out fault (inr p) = turns-plain phase (pass_from phase k.sectors old nothing) p.reads.2
 
   trimmed-plain : (retries : ℕ) (old : AfterTurns S) (images : S) (stack : StackRecord) (out : Device) (fault : PassFault) → EndsAfterTrims k retries old images stack out fault → images ≡ old.images
   trimmed-plain retries old images stack out fault p = later p.ends ∙ kept-plain Trim old p.between p.known p.trims
@@ -87,7 +87,7 @@ module _ {S : Type 0} (k : Kept S) (none : k.file ≡ None) where
 pub plain-passed : {S D : Type 0} (relations : Opener S D) (state : D → Device) (old new : S) (t : Retried) (m : Moving) (counts : Counts) → Passes (calls relations state old new) None t m counts → new ≡ old
 plain-passed relations state old new t m counts p =
     let r = p.rescued in
-    turns-plain _ refl _ _ r.last.reads ∙ steps-plain _ refl r.between r.again.0 ∙ kept-plain _ refl Trim r.swept r.between r.known r.trims ∙ sweeps-plain _ refl _ r.swept r.large ∙ p.read.0
+    turns-plain _ refl _ _ r.last.reads.2 ∙ steps-plain _ refl r.between r.again.0 ∙ kept-plain _ refl Trim r.swept r.between r.known r.trims ∙ sweeps-plain _ refl _ r.swept r.large ∙ p.read.0
 
 pub plain-ended : {S D : Type 0} (relations : Opener S D) (state : D → Device) (old new : S) (t : Retried) (m : Moving) (fault : PassFault) → StopsPass (calls relations state old new) None t m fault → new ≡ old
 plain-ended relations state old new t m fault (inl p) = p.1.0

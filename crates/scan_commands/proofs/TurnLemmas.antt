@@ -16,7 +16,7 @@ use Rattle.scan_commands.specs.declared.turn_reads.ReadMap.{ReadMap}
 use Rattle.image_files.specs.declared.texts.ReplaceFault.{ReplaceFault}
 use Rattle.scan_commands.specs.MapFiles.{MapPathRecord, recovery_ending}
 use Rattle.rescue_map.specs.declared.splicing.Span.{Span}
-use Rattle.scan_commands.specs.Turns.{IsSpan, IsTurnDeadline, IsUpTo, asked_marks, Kept, Progressed, ReadsLarge, ReadsLeft, ReadsSectors, Replaces, is_trim, kept as kept_by, made_map, most_skipped, scan_in, synced_by}
+use Rattle.scan_commands.specs.Turns.{IsSpan, IsTurnDeadline, IsUpTo, asked_marks, Kept, Progressed, ReadsLarge, ReadsLeft, ReadsSectors, Replaces, is_trim, kept as kept_by, most_skipped, scan_from, scan_in, synced_by}
 use Rattle.scan_commands.specs.TurnEnds.{EndsSectors, EndsUnmapped, FailsToWrite, IsFileUnreplaced, LeavesMap, RunsOut, IsMapUnwritten, IsUnfailed, StopsIn, largest_print_allocation, skipping_in}
 use Rattle.scan_commands.specs.TurnCalls.{ReadsLeftUntil, ReadsUntil}
 use Rattle.stack_recovery.specs.declared.deadline.Deadline.{Deadline}
@@ -29,9 +29,11 @@ use Rattle.stack_recovery.specs.Deadlines.{EndsAt}
 use Rattle.stack_recovery.specs.FirstPasses.{EndsSkim, SkimsShort, SkimsTo, SkimsUntil, Skipping, Transfer, skimmed, skipping}
 use Rattle.stack_recovery.specs.Skims.{IsSkimOver, Skim as SkimPiece, marks_of, skim_marks}
 use Rattle.stack_recovery.specs.FirstPasses.{transfer_of}
-use Rattle.stack_recovery.specs.PassPieces.{Scanned, scanned}
+use Rattle.stack_recovery.specs.PassPieces.{IsWayInside, Scanned}
 use Rattle.stack_recovery.specs.Recoveries.{FailsOutput, FindsNoMemory, GoesOverTo, IsMapRefused, IsRescueEnd, RescuesUntil, RunsShort, Sides, counted_sectors, is_had}
-use Rattle.stack_recovery.specs.Surveys.{AnswersFinding, Finding, IsSurveyOver, PieceRead, SectorState, again, all_states, had, kept, lost, probed, states_of, trimmed}
+use Rattle.stack_recovery.specs.declared.way.Way.{Way}
+use Rattle.stack_recovery.specs.declared.way.Way.TheVariants.{Backward, Forward, Turned}
+use Rattle.stack_recovery.specs.Surveys.{AnswersFinding, Finding, IsSurveyOver, PieceRead, SectorState, again, all_states, copied, had, kept, lost, probed, states_of, trimmed}
 
 -- whether a pass reads in large pieces
 abbrev pub is_large : Phase → Bool
@@ -45,6 +47,7 @@ answers-config w d first n (lost fault) w' a = a.any.config
 answers-config w d first n (again fault) w' a = a.any.config
 answers-config w d first n (probed behind bytes) w' a = a.any.config
 answers-config w d first n (trimmed behind fault) w' a = a.any.config
+answers-config w d first n copied w' a = ap (λ (s : StackRecord). s.config) a
 answers-config w d first n kept w' a = ap (λ (s : StackRecord). s.config) a
 
 survey-config : (before : List Bool) (d first : ℕ) (w : StackRecord) (reads : List PieceRead) (w' : StackRecord) → IsSurveyOver before d first w reads w' → w'.config ≡ w.config
@@ -95,6 +98,23 @@ ends-past (Some file) first deadline at sectors until inside ends = upto (subst 
     upto (inl e) = (omega (arith, inside, e), omega (arith, e))
     upto (inr early) = early
 
+forward-inside : (way : Way) (at sectors : ℕ) → way ≡ Forward → IsWayInside at way sectors
+forward-inside way at sectors is = subst (λ (x : Way). IsWayInside at x sectors) (sym is) tt
+
+-- what a pass read backwards is inside the device
+pub way-inside : (phase : Phase) (wanted : ℕ) (before : List Bool) (scan : Scanned) (old : Sides) (made : ReadMap) (new : Sides) (sectors : ℕ) → sectors ≡ size old.stack.config (mapped scan.d) → ReadsSectors phase wanted before scan old made new
+    → IsWayInside (length (marks made.map)) made.way sectors
+way-inside Skim wanted before scan old made new sectors all r = forward-inside made.way (length (marks made.map)) sectors r.2
+way-inside Sweep wanted before scan old made new sectors all r = forward-inside made.way (length (marks made.map)) sectors r.2
+way-inside Trim wanted before scan old made new sectors all r = subst (IsWayInside (length (marks made.map)) made.way) (sym all) r.1.inside
+way-inside Scrape wanted before scan old made new sectors all r = subst (IsWayInside (length (marks made.map)) made.way) (sym all) r.1.inside
+way-inside Retry wanted before scan old made new sectors all r = subst (IsWayInside (length (marks made.map)) made.way) (sym all) r.1.inside
+
+pub inside-from : (way : Way) (at sectors : ℕ) → IsWayInside at way sectors → IsWayInside 0 way sectors
+inside-from Forward at sectors inside = tt
+inside-from Turned at sectors inside = tt
+inside-from (Backward low end) at sectors inside = (omega arith, inside.1, inside.2)
+
 pub up-to-few : (file : Option MapPathRecord) (sectors at : ℕ) → IsUpTo file sectors at → at ≤ sectors
 up-to-few None sectors at e = omega (arith, e)
 up-to-few (Some file) sectors at few = few
@@ -122,14 +142,14 @@ as-sectors Retry wanted before scan old made new large r = absurd (false≢true 
 
 -- by the most sectors that it skips
 abbrev pub ReadsLargeUntil : Option Deadline → Skipping → List Bool → Scanned → Sides → ReadMap → Sides → Type 0
-ReadsLargeUntil deadline skips before scan old made new = SkimsUntil deadline skips before scan.d (transfer_of old) (skimmed made.map made.skip) (transfer_of new)
+ReadsLargeUntil deadline skips before scan old made new = SkimsUntil deadline skips before scan.d (transfer_of old) (skimmed made.map made.skip) (transfer_of new) × (made.way ≡ Forward)
 
 pub large-reads : (phase : Phase) (r : Result ReadMap RecoveryFault) (deadline : Option Deadline) (most wanted : ℕ) (before : List Bool) (scan : Scanned) (old new : Sides) → is_large phase ≡ true → most ≡ most_skipped phase (size old.stack.config (mapped scan.d))
     → new.printed ≡ old.printed → IfOk r (λ made. ReadsLargeUntil deadline (skipping most wanted) before scan old made new) → IfOk r (λ made. ReadsUntil phase wanted before scan deadline old made new)
 large-reads phase (Ok made) deadline most wanted before scan old new large is told p =
     let reads : ReadsLarge phase wanted before scan old made new =
-    (subst (λ (m : ℕ). SkimsTo (skipping m wanted) before scan.d (length (marks made.map)) (transfer_of old) (skimmed made.map made.skip) (transfer_of new)) is p.reads, told) in
-    record { reads = as-sectors phase wanted before scan old made new large reads; ends = p.ends }
+    (subst (λ (m : ℕ). SkimsTo (skipping m wanted) before scan.d (length (marks made.map)) (transfer_of old) (skimmed made.map made.skip) (transfer_of new)) is p.0.reads, told, p.1) in
+    record { reads = as-sectors phase wanted before scan old made new large reads; ends = p.0.ends }
 large-reads phase (Err fault) deadline most wanted before scan old new large is told p = tt
 
 -- a pass by single sectors
@@ -141,9 +161,9 @@ as-single Scrape wanted before scan old made new single r = r
 as-single Retry wanted before scan old made new single r = r
 
 pub single-reads : (phase : Phase) (r : Result ReadMap RecoveryFault) (deadline : Option Deadline) (wanted : ℕ) (before : List Bool) (scan : Scanned) (trims : Bool) (old new : Sides) → is_large phase ≡ false → trims ≡ is_trim phase
-    → IfOk r (λ made. ReadsLeftUntil deadline before (scanned scan.d trims) old made new) → IfOk r (λ made. ReadsUntil phase wanted before scan deadline old made new)
+    → IfOk r (λ made. ReadsLeftUntil deadline before (record scan { no_scrape = trims }) old made new) → IfOk r (λ made. ReadsUntil phase wanted before scan deadline old made new)
 single-reads phase (Ok made) deadline wanted before scan trims old new single is p = record {
-  reads = as-single phase wanted before scan old made new single (subst (λ (b : Bool). ReadsLeft before (scanned scan.d b) old made new) is p.0);
+  reads = as-single phase wanted before scan old made new single (subst (λ (b : Bool). ReadsLeft before (record scan { no_scrape = b }) old made new) is p.0);
   ends = p.1;
 }
 single-reads phase (Err fault) deadline wanted before scan trims old new single is p = tt
@@ -153,10 +173,11 @@ length-states [] = refl
 length-states (x ∷ states) = ap suc (length-states states)
 
 -- the sectors that are counted are those of the map
-pub left-until : (deadline : Option Deadline) (before : List Bool) (scan : Scanned) (old : Sides) (rescued : Rescued) (new : Sides) → RescuesUntil deadline before scan old rescued new → ReadsLeftUntil deadline before scan old (made_map rescued.map 0) new
+pub left-until : (deadline : Option Deadline) (before : List Bool) (scan : Scanned) (old : Sides) (rescued : Rescued) (new : Sides) → RescuesUntil deadline before scan old rescued new
+    → ReadsLeftUntil deadline before scan old (record { map = rescued.map; skip = 0; way = rescued.course.way }) new
 left-until deadline before scan old rescued new p =
-    let end : counted_sectors rescued.counts ≡ length (marks rescued.map) = sym (ap length p.goes.noted ∙ length-states (all_states p.goes.reads) ∙ p.goes.whole) in (
-      (rescued.counts, subst (λ (n : ℕ). GoesOverTo before scan n old rescued.counts (Some rescued.map) new) end p.goes, refl),
+    let end : counted_sectors rescued.course.counts ≡ length (marks rescued.map) = sym (ap length p.goes.noted ∙ length-states (all_states p.goes.reads) ∙ p.goes.whole) in (
+      (rescued.course.counts, subst (λ (n : ℕ). GoesOverTo before scan n rescued.course.way old rescued.course.counts (Some rescued.map) new) end p.goes, refl),
       subst (λ (n : ℕ). EndsAt deadline n (size old.stack.config (mapped scan.d))) end p.ends,
     )
 
@@ -182,10 +203,10 @@ single-end Scrape wanted before scan old new fault single e = e
 single-end Retry wanted before scan old new fault single e = e
 
 pub single-ends : (phase : Phase) (r : Result ReadMap RecoveryFault) (wanted : ℕ) (before : List Bool) (scan : Scanned) (trims : Bool) (old new : Sides) → is_large phase ≡ false → trims ≡ is_trim phase
-    → IfErr r (λ fault. IsRescueEnd before (scanned scan.d trims) old new fault) → IfErr r (λ fault. EndsSectors phase wanted before scan old new fault)
+    → IfErr r (λ fault. IsRescueEnd before (record scan { no_scrape = trims }) old new fault) → IfErr r (λ fault. EndsSectors phase wanted before scan old new fault)
 single-ends phase (Ok made) wanted before scan trims old new single is e = tt
 single-ends phase (Err fault) wanted before scan trims old new single is e =
-    single-end phase wanted before scan old new fault single (subst (λ (b : Bool). IsRescueEnd before (scanned scan.d b) old new fault) is e)
+    single-end phase wanted before scan old new fault single (subst (λ (b : Bool). IsRescueEnd before (record scan { no_scrape = b }) old new fault) is e)
 
 -- a failure after a copy that had none
 pub failed-behind : (old left new : Device) → left.failures ≡ old.failures → HasFailed left new → HasFailed old new
@@ -214,66 +235,66 @@ refused-skim skips before d old new short = refused short.refused
     refused (inr map) = out_of_memory-more 1 largest_allocation (omega arith) map
 
 pub stops-reading : {S : Type 0} (k : Kept S) (phase : Phase) (now : Progressed S) (span : Span) (end : ℕ) (before : List Bool) (new : Sides) (fault : RecoveryFault)
-    → IsSpan k.file k.sectors now.at span end → before ≡ asked_marks phase span k.sectors now.runs → EndsSectors phase now.skip before k.scan now.sides new fault → StopsIn k phase now now.images new (recovery_ending fault)
+    → IsSpan k.file k.sectors now.at span end → before ≡ asked_marks phase span k.sectors now.runs → EndsSectors phase now.skip before (scan_from k now) now.sides new fault → StopsIn k phase now now.images new (recovery_ending fault)
 stops-reading k Skim now span end before new recovery.NoMemory next wanted e = (
   refl,
   e.0.unfailed,
-  refused-skim (skipping_in Skim now.skip k.scan now.sides) before k.scan.d (transfer_of now.sides) (transfer_of new) e.0,
-  inr (inl (record { span = span; end = end; next = next; short = subst (λ (l : List Bool). RunsOut Skim now.skip l k.scan now.sides new) wanted e })),
+  refused-skim (skipping_in Skim now.skip (scan_from k now) now.sides) before k.scan.d (transfer_of now.sides) (transfer_of new) e.0,
+  inr (inl (record { span = span; end = end; next = next; short = subst (λ (l : List Bool). RunsOut Skim now.skip l (scan_from k now) now.sides new) wanted e })),
 )
 stops-reading k Sweep now span end before new recovery.NoMemory next wanted e = (
   refl,
   e.0.unfailed,
-  refused-skim (skipping_in Sweep now.skip k.scan now.sides) before k.scan.d (transfer_of now.sides) (transfer_of new) e.0,
-  inr (inl (record { span = span; end = end; next = next; short = subst (λ (l : List Bool). RunsOut Sweep now.skip l k.scan now.sides new) wanted e })),
+  refused-skim (skipping_in Sweep now.skip (scan_from k now) now.sides) before k.scan.d (transfer_of now.sides) (transfer_of new) e.0,
+  inr (inl (record { span = span; end = end; next = next; short = subst (λ (l : List Bool). RunsOut Sweep now.skip l (scan_from k now) now.sides new) wanted e })),
 )
 stops-reading k Trim now span end before new recovery.NoMemory next wanted e = (
   refl,
   e.unfailed,
-  refused-short true before (scan_in Trim k.scan) now.sides new e,
-  inr (inl (record { span = span; end = end; next = next; short = subst (λ (l : List Bool). RunsOut Trim now.skip l k.scan now.sides new) wanted e })),
+  refused-short true before (scan_in Trim (scan_from k now)) now.sides new e,
+  inr (inl (record { span = span; end = end; next = next; short = subst (λ (l : List Bool). RunsOut Trim now.skip l (scan_from k now) now.sides new) wanted e })),
 )
 stops-reading k Scrape now span end before new recovery.NoMemory next wanted e = (
   refl,
   e.unfailed,
-  refused-short true before (scan_in Scrape k.scan) now.sides new e,
-  inr (inl (record { span = span; end = end; next = next; short = subst (λ (l : List Bool). RunsOut Scrape now.skip l k.scan now.sides new) wanted e })),
+  refused-short true before (scan_in Scrape (scan_from k now)) now.sides new e,
+  inr (inl (record { span = span; end = end; next = next; short = subst (λ (l : List Bool). RunsOut Scrape now.skip l (scan_from k now) now.sides new) wanted e })),
 )
 stops-reading k Retry now span end before new recovery.NoMemory next wanted e = (
   refl,
   e.unfailed,
-  refused-short true before (scan_in Retry k.scan) now.sides new e,
-  inr (inl (record { span = span; end = end; next = next; short = subst (λ (l : List Bool). RunsOut Retry now.skip l k.scan now.sides new) wanted e })),
+  refused-short true before (scan_in Retry (scan_from k now)) now.sides new e,
+  inr (inl (record { span = span; end = end; next = next; short = subst (λ (l : List Bool). RunsOut Retry now.skip l (scan_from k now) now.sides new) wanted e })),
 )
 stops-reading k Skim now span end before new recovery.Output next wanted e = (
   refl,
   e.0.failed,
   e.0.sure,
-  record { span = span; end = end; next = next; fails = inl (subst (λ (l : List Bool). FailsToWrite Skim now.skip l k.scan now.sides new) wanted e) },
+  record { span = span; end = end; next = next; fails = inl (subst (λ (l : List Bool). FailsToWrite Skim now.skip l (scan_from k now) now.sides new) wanted e) },
 )
 stops-reading k Sweep now span end before new recovery.Output next wanted e = (
   refl,
   e.0.failed,
   e.0.sure,
-  record { span = span; end = end; next = next; fails = inl (subst (λ (l : List Bool). FailsToWrite Sweep now.skip l k.scan now.sides new) wanted e) },
+  record { span = span; end = end; next = next; fails = inl (subst (λ (l : List Bool). FailsToWrite Sweep now.skip l (scan_from k now) now.sides new) wanted e) },
 )
 stops-reading k Trim now span end before new recovery.Output next wanted e = (
   refl,
   e.failed,
   e.sure,
-  record { span = span; end = end; next = next; fails = inl (subst (λ (l : List Bool). FailsOutput l (scan_in Trim k.scan) now.sides new) wanted e) },
+  record { span = span; end = end; next = next; fails = inl (subst (λ (l : List Bool). FailsOutput l (scan_in Trim (scan_from k now)) now.sides new) wanted e) },
 )
 stops-reading k Scrape now span end before new recovery.Output next wanted e = (
   refl,
   e.failed,
   e.sure,
-  record { span = span; end = end; next = next; fails = inl (subst (λ (l : List Bool). FailsOutput l (scan_in Scrape k.scan) now.sides new) wanted e) },
+  record { span = span; end = end; next = next; fails = inl (subst (λ (l : List Bool). FailsOutput l (scan_in Scrape (scan_from k now)) now.sides new) wanted e) },
 )
 stops-reading k Retry now span end before new recovery.Output next wanted e = (
   refl,
   e.failed,
   e.sure,
-  record { span = span; end = end; next = next; fails = inl (subst (λ (l : List Bool). FailsOutput l (scan_in Retry k.scan) now.sides new) wanted e) },
+  record { span = span; end = end; next = next; fails = inl (subst (λ (l : List Bool). FailsOutput l (scan_in Retry (scan_from k now)) now.sides new) wanted e) },
 )
 
 -- the fault is that of the map file

@@ -36,14 +36,14 @@ reported runs known found = runs_of is_same_loss 0 (joined_states 0 (statuses ru
 abbrev pub LostRunsAreUnrecovered : {S D : Type 0} → Opener S D → (D → Device) → Type 0
 LostRunsAreUnrecovered {S} relations state =
     (old new : S) (file : Option MapPathRecord) (t : Retried) (m : Moving) (counts : Counts) (r : Passes (calls relations state old new) file t m counts) (s : ℕ) → s < size m.old.stack.config (mapped t.d)
-    → is_in (reported r.rescued.last.made.map r.rescued.known r.rescued.last.found) s ≡ not (slice_index_or (marks r.rescued.last.made.map) s false)
+    → is_in (reported r.rescued.last.made r.rescued.known r.rescued.last.found) s ≡ not (slice_index_or (marks r.rescued.last.made) s false)
 
 -- If the backing devices are steady and never fail, passes that scrape and have no map file report exactly the sectors that mean a fault, each
 -- as lost by that fault.
 abbrev pub StatesAreMeant : {S D : Type 0} → Opener S D → (D → Device) → Type 0
 StatesAreMeant {S} relations state =
     (old new : S) (t : Retried) (m : Moving) (counts : Counts) (r : Passes (calls relations state old new) None t m counts) → t.no_scrape ≡ false → AreSure m.old.stack.config (λ i. stands_on m.old.stack.config i (mapped t.d)) m.old.stack.leaves
-    → joined_states 0 (statuses r.rescued.last.made.map) r.rescued.known r.rescued.last.found ≡ meant_states (sector m.old.stack.config (steady_images m.old.stack.leaves) (mapped t.d)) 0 (size m.old.stack.config (mapped t.d))
+    → joined_states 0 (statuses r.rescued.last.made) r.rescued.known r.rescued.last.found ≡ meant_states (sector m.old.stack.config (steady_images m.old.stack.leaves) (mapped t.d)) 0 (size m.old.stack.config (mapped t.d))
 
 -- Without a map file the opener isn't called, also if the passes end early.
 abbrev pub PlainPassesCallNothing : {S D : Type 0} → Opener S D → (D → Device) → Type 0

@@ -19,8 +19,7 @@ use Rattle.scan_commands.specs.declared.phase.Phase.TheVariants.{Retry, Scrape, 
 use Rattle.scan_commands.specs.declared.rescue_fault.PassFault.{PassFault}
 use Rattle.scan_commands.specs.declared.rescue_fault.PassFault.TheVariants.{NoMemory}
 use Rattle.scan_commands.specs.declared.retries.TriedMap.{TriedMap}
-use Rattle.scan_commands.specs.declared.turn_reads.ReadMap.{ReadMap}
-use Rattle.scan_commands.specs.Turns.{begun_with, made_map, Kept, Progressed, ReadsInTurns}
+use Rattle.scan_commands.specs.Turns.{begun_with, Kept, Progressed, ReadsInTurns}
 use Rattle.scan_commands.specs.TurnEnds.{IsPassTurnsEnd}
 
 -- what the turns of a pass leave: the opener, and the stack, the output device and the map
@@ -42,7 +41,7 @@ pass_from phase sectors a printed = begun_with phase sectors a.images (sides a.l
 -- a pass that reported to nobody
 abbrev pub IsSilentPass : {S : Type 0} → Kept S → Phase → AfterTurns S → AfterTurns S → Type 0
 IsSilentPass k phase old new =
-    (before : Listed) × (after : Listed) × (skip : ℕ) × ReadsInTurns k phase (pass_from phase k.sectors old before) new.images (sides new.left.stack new.left.out after) (made_map new.left.map skip)
+    (before : Listed) × (after : Listed) × ReadsInTurns k phase (pass_from phase k.sectors old before) new.images (sides new.left.stack new.left.out after) new.left.map
 
 -- the passes in large pieces, which report nothing
 pub record SweepsInTurns {S : Type 0} (k : Kept S) (old new : AfterTurns S) : Type 0 where
@@ -70,18 +69,18 @@ nothing = kept_runs [] false
 
 -- a pass whose lost runs were kept
 pub record KeepsTurns {S : Type 0} (k : Kept S) (phase : Phase) (old new : AfterTurns S) (found : List LostRun) : Type 0 where
-  pub made : ReadMap
+  pub made : List Run
   pub reads : ReadsInTurns k phase (pass_from phase k.sectors old nothing) new.images (sides new.left.stack new.left.out (kept_runs found false)) made
-  pub map : new.left.map ≡ made.map
+  pub map : new.left.map ≡ made
 
 -- The last pass. Its lost runs were kept, and then the longest runs were reported: of these, and of the sectors that its map doesn't have
 -- as recovered and that it didn't read, some of which are in the runs known before.
 pub record ReportsLast {S : Type 0} (k : Kept S) (phase : Phase) (known : List LostRun) (old : AfterTurns S) (printed : Listed) (images : S) (new : Sides) (counts : Counts) : Type 0 where
-  pub made : ReadMap
+  pub made : List Run
   pub found : List LostRun
   pub reads : ReadsInTurns k phase (pass_from phase k.sectors old nothing) images (sides new.stack new.out (kept_runs found false)) made
-  pub told : Tells printed new.printed (runs_of is_same_loss 0 (joined_states 0 (statuses made.map) known found))
-  pub counted : counts ≡ counts_of (map_totals made.map)
+  pub told : Tells printed new.printed (runs_of is_same_loss 0 (joined_states 0 (statuses made) known found))
+  pub counted : counts ≡ counts_of (map_totals made)
 
 -- The passes in large pieces, the one that trims, those that report nothing, and the last one, with a map between them.
 pub record RescuesInTurns {S : Type 0} (k : Kept S) (retries : ℕ) (first : AfterTurns S) (printed : Listed) (images : S) (new : Sides) (counts : Counts) : Type 0 where
@@ -109,7 +108,7 @@ pub record EndsRetries {S : Type 0} (k : Kept S) (retries : ℕ) (old : AfterTur
 
 -- room for a lost run of a pass was refused, which was completed
 pub record RefusesRun {S : Type 0} (k : Kept S) (phase : Phase) (old : AfterTurns S) (images : S) (stack : StackRecord) (out : Device) (fault : PassFault) : Type 0 where
-  pub made : ReadMap
+  pub made : List Run
   pub kept : Listed
   pub reads : ReadsInTurns k phase (pass_from phase k.sectors old nothing) images (sides stack out kept) made
   pub refused : kept.failed ≡ true

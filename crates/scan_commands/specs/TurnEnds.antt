@@ -18,7 +18,7 @@ use Rattle.scan_commands.specs.declared.phase.Phase.TheVariants.{Skim, Sweep}
 use Rattle.scan_commands.specs.declared.turn_reads.ReadMap.{ReadMap}
 use Rattle.scan_commands.specs.declared.rescue_fault.PassFault.{PassFault}
 use Rattle.scan_commands.specs.declared.rescue_fault.PassFault.TheVariants.{NoMemory, Output, Unwritten}
-use Rattle.scan_commands.specs.Turns.{IsSpan, Kept, Progressed, ReadsSectors, Replaces, Turns, asked_marks, most_skipped, scan_in, synced_by}
+use Rattle.scan_commands.specs.Turns.{IsSpan, Kept, Progressed, ReadsSectors, Replaces, Turns, asked_marks, most_skipped, scan_from, scan_in, synced_by}
 
 -- the most elements that one allocation requests when a map is printed
 abbrev pub largest_print_allocation : ℕ
@@ -54,7 +54,7 @@ IsUnfailed old new = new.out.failures ≡ old.out.failures
 pub record FailsToSyncTurn {S : Type 0} (k : Kept S) (phase : Phase) (span : Span) (now : Progressed S) (new : Sides) : Type 0 where
   pub left : Sides
   pub made : ReadMap
-  pub reads : ReadsSectors phase now.skip (asked_marks phase span k.sectors now.runs) k.scan now.sides made left
+  pub reads : ReadsSectors phase now.skip (asked_marks phase span k.sectors now.runs) (scan_from k now) now.sides made left
   pub kept : is_some k.file ≡ true
   pub unsynced : IsUnsynced left.out new.out
   pub stack : new.stack ≡ left.stack
@@ -75,7 +75,7 @@ pub record FailsInTurn {S : Type 0} (k : Kept S) (phase : Phase) (now : Progress
   pub span : Span
   pub end : ℕ
   pub next : IsSpan k.file k.sectors now.at span end
-  pub fails : FailsToWrite phase now.skip (asked_marks phase span k.sectors now.runs) k.scan now.sides new ⊎ FailsToSyncTurn k phase span now new
+  pub fails : FailsToWrite phase now.skip (asked_marks phase span k.sectors now.runs) (scan_from k now) now.sides new ⊎ FailsToSyncTurn k phase span now new
 
 -- memory ran out for a read of the pass or for its map; the lines printed are the first of those of the pass
 abbrev pub RunsOut : Phase → ℕ → List Bool → Scanned → Sides → Sides → Type 0
@@ -94,7 +94,7 @@ pub record RunsOutInTurn {S : Type 0} (k : Kept S) (phase : Phase) (now : Progre
   pub span : Span
   pub end : ℕ
   pub next : IsSpan k.file k.sectors now.at span end
-  pub short : RunsOut phase now.skip (asked_marks phase span k.sectors now.runs) k.scan now.sides new
+  pub short : RunsOut phase now.skip (asked_marks phase span k.sectors now.runs) (scan_from k now) now.sides new
 
 -- The sectors of the next turn were done. If there is a map file, the output device was synced.
 pub record EndsUnmapped {S : Type 0} (k : Kept S) (phase : Phase) (now : Progressed S) (new : Sides) : Type 0 where
@@ -103,7 +103,7 @@ pub record EndsUnmapped {S : Type 0} (k : Kept S) (phase : Phase) (now : Progres
   pub next : IsSpan k.file k.sectors now.at span end
   pub left : Sides
   pub made : ReadMap
-  pub reads : ReadsSectors phase now.skip (asked_marks phase span k.sectors now.runs) k.scan now.sides made left
+  pub reads : ReadsSectors phase now.skip (asked_marks phase span k.sectors now.runs) (scan_from k now) now.sides made left
   pub on_medium : new ≡ sides left.stack (synced_by k.file left.out) left.printed
 
 -- the next turn wasn't begun, was ended by a read, or lacks its map alone

@@ -16,8 +16,10 @@ use Rattle.stack_recovery.specs.declared.recovery.Counts.{Counts}
 use Rattle.stack_recovery.specs.FirstPasses.{SkimsTo, skimmed, skipping, transfer_of}
 use Rattle.stack_recovery.specs.Skips.{least_skip, most_skip}
 use Rattle.stack_rules.specs.Names.{mapped, size}
-use Rattle.stack_recovery.specs.PassPieces.{Scanned, scanned}
+use Rattle.stack_recovery.specs.PassPieces.{IsWayInside, Scanned}
 use Rattle.stack_recovery.specs.Recoveries.{GoesOverTo, Sides, sides}
+use Rattle.stack_recovery.specs.declared.way.Way.{Way}
+use Rattle.stack_recovery.specs.declared.way.Way.TheVariants.{Backward, Forward}
 use Rattle.image_files.specs.declared.texts.ReplaceFault.{ReplaceFault}
 use Rattle.scan_commands.specs.MapFiles.{MapPathRecord}
 use Rattle.scan_commands.specs.declared.phase.Phase.{Phase}
@@ -38,17 +40,18 @@ pub record Kept (S : Type 0) : Type 1 where
 abbrev pub kept : {S : Type 0} → Replaces S → Option MapPathRecord → Scanned → ℕ → Kept S
 kept replaces file scan sectors = record { replaces = replaces; file = file; scan = scan; sectors = sectors }
 
--- the opener, the stack with the output device and the reported lines, and the map; the sectors before `at` are done, and after the next
--- failed read of a pass in large pieces so many are skipped
+-- the opener, the stack with the output device and the reported lines, and the map; the sectors before `at` are done, after the next
+-- failed read of a pass in large pieces so many are skipped, and a run that begins at sector `turned` is read backwards, 0 if none is
 pub record Progressed (S : Type 0) : Type 0 where
   pub images : S
   pub sides : Sides
   pub runs : List Run
   pub at : ℕ
   pub skip : ℕ
+  pub turned : ℕ
 
-abbrev pub progressed : {S : Type 0} → S → Sides → List Run → ℕ → ℕ → Progressed S
-progressed images sides runs at skip = record { images = images; sides = sides; runs = runs; at = at; skip = skip }
+abbrev pub progressed : {S : Type 0} → S → Sides → List Run → ℕ → ℕ → ℕ → Progressed S
+progressed images sides runs at skip turned = record { images = images; sides = sides; runs = runs; at = at; skip = skip; turned = turned }
 
 -- the most sectors that a pass over so many sectors skips after a failed read
 abbrev pub most_skipped : Phase → ℕ → ℕ
@@ -76,10 +79,7 @@ is_trim other = false
 
 -- a pass over so many sectors begins
 abbrev pub begun_with : {S : Type 0} → Phase → ℕ → S → Sides → List Run → Progressed S
-begun_with phase sectors images sides runs = progressed images sides runs 0 (min least_skip (most_skipped phase sectors))
-
-abbrev pub made_map : List Run → ℕ → ReadMap
-made_map runs skip = record { map = runs; skip = skip }
+begun_with phase sectors images sides runs = progressed images sides runs 0 (min least_skip (most_skipped phase sectors)) 0
 
 -- how many sectors a turn covers after which a map file is replaced: 64 MiB, or of a device above 4 TiB about a 65,536th, in whole groups of
 -- eight sectors
@@ -106,17 +106,17 @@ pub record IsSpan (file : Option MapPathRecord) (sectors at : ℕ) (span : Span)
 
 -- sectors were read in a pass by single sectors, which made a map of these sectors
 abbrev pub ReadsLeft : List Bool → Scanned → Sides → ReadMap → Sides → Type 0
-ReadsLeft before scan old made new = (counts : Counts) × GoesOverTo before scan (length (marks made.map)) old counts (Some made.map) new × (made.skip ≡ 0)
+ReadsLeft before scan old made new = (counts : Counts) × GoesOverTo before scan (length (marks made.map)) made.way old counts (Some made.map) new × (made.skip ≡ 0)
 
 -- Sectors were read in a pass in large pieces, which made a map of them, in which failed pieces are bad. It skips `wanted` sectors after
--- its first failed read, and reports nothing.
+-- its first failed read, reads nothing backwards, and reports nothing.
 abbrev pub ReadsLarge : Phase → ℕ → List Bool → Scanned → Sides → ReadMap → Sides → Type 0
 ReadsLarge phase wanted before scan old made new =
-    SkimsTo (skipping (most_skipped phase (size old.stack.config (mapped scan.d))) wanted) before scan.d (length (marks made.map)) (transfer_of old) (skimmed made.map made.skip) (transfer_of new) × (new.printed ≡ old.printed)
+    SkimsTo (skipping (most_skipped phase (size old.stack.config (mapped scan.d))) wanted) before scan.d (length (marks made.map)) (transfer_of old) (skimmed made.map made.skip) (transfer_of new) × (new.printed ≡ old.printed) × (made.way ≡ Forward)
 
 -- such a pass leaves sectors between the edges of a run unread if it trims
 abbrev pub scan_in : Phase → Scanned → Scanned
-scan_in phase scan = scanned scan.d (is_trim phase)
+scan_in phase scan = record scan { no_scrape = is_trim phase }
 
 -- sectors were read in a pass by the marks before it
 abbrev pub ReadsSectors : Phase → ℕ → List Bool → Scanned → Sides → ReadMap → Sides → Type 0
@@ -127,6 +127,20 @@ ReadsSectors later wanted before scan old made new = ReadsLeft before (scan_in l
 -- the sectors from sector `first` on and before `end`
 abbrev pub span_between : ℕ → ℕ → Span
 span_between first end = record { first = first; count = end - first }
+
+-- a device as the next turn of a pass scans it
+abbrev pub scan_from : {S : Type 0} → Kept S → Progressed S → Scanned
+scan_from k now = record k.scan { turned = now.turned }
+
+-- the first sector of the run that a pass would go on to read backwards, from sector `at` on; 0 if it wouldn't
+abbrev pub turned_by : Way → ℕ → ℕ
+turned_by Forward at = 0
+turned_by other at = at
+
+-- the map after the sectors that a pass read backwards: of those with the status that its step takes each is recovered
+abbrev pub StepsBackwards : Step → ℕ → Way → List Run → List Run → Type 0
+StepsBackwards step sectors (Backward low end) old new = (all : List Run) × (marks all ≡ replicate sectors true) × (statuses new ≡ stepped_statuses step (span_between low end) old all)
+StepsBackwards step sectors other old new = new ≡ old
 
 -- a turn that begins at sector `first` may end early once a time is up, but not without a map file
 abbrev pub IsTurnDeadline : Option MapPathRecord → ℕ → Option Deadline → Type 0
@@ -149,21 +163,27 @@ IsUpTo None sectors at = at ≡ sectors
 IsUpTo (Some file) sectors at = at ≤ sectors
 
 -- A turn, of the next sectors or the first of them. Those with the status that the pass takes were read, and the readable ones were copied
--- to the other device. If there is a map file, that device was synced, and then the file replaced by the new map.
+-- to the other device. If it ended while it read a run backwards, the sectors of the run that were read are recovered too. If there is a map
+-- file, that device was synced, and then the file replaced by the new map.
 pub record IsTurn {S : Type 0} (k : Kept S) (phase : Phase) (old new : Progressed S) : Type 0 where
   pub span : Span
   pub end : ℕ
   pub next : IsSpan k.file k.sectors old.at span end
   pub left : Sides
   pub made : ReadMap
-  pub reads : ReadsSectors phase old.skip (asked_marks phase span k.sectors old.runs) k.scan old.sides made left
+  pub reads : ReadsSectors phase old.skip (asked_marks phase span k.sectors old.runs) (scan_from k old) old.sides made left
   pub on_medium : new.sides ≡ sides left.stack (synced_by k.file left.out) left.printed
   pub some : old.at < new.at
   pub few : IsUpTo k.file k.sectors (length (marks made.map))
   pub here : new.at ≡ min end (length (marks made.map))
+  pub behind : IsWayInside (length (marks made.map)) made.way k.sectors
+  pub forwards : List Run
+  pub same : length (marks forwards) ≡ length (marks old.runs)
+  pub stepped : statuses forwards ≡ stepped_statuses (step_of phase) (span_between old.at new.at) old.runs made.map
   pub whole : length (marks new.runs) ≡ length (marks old.runs)
-  pub map : statuses new.runs ≡ stepped_statuses (step_of phase) (span_between old.at new.at) old.runs made.map
+  pub map : StepsBackwards (step_of phase) k.sectors made.way forwards new.runs
   pub skip : new.skip ≡ made.skip
+  pub turned : new.turned ≡ turned_by made.way new.at
   pub written : KeepsMap k.replaces k.file k.scan.no_scrape new.runs old.images new.images
 
 -- none of the next sectors has the status that the pass takes, so that nothing is done
@@ -181,5 +201,5 @@ pub data Turns {S : Type 0} (k : Kept S) (phase : Phase) (first : Progressed S) 
   passes : {now next : Progressed S} → Turns k phase first now → IsSkipped k phase now next → Turns k phase first next
 
 -- the turns of a whole pass, which result in this map
-abbrev pub ReadsInTurns : {S : Type 0} → Kept S → Phase → Progressed S → S → Sides → ReadMap → Type 0
-ReadsInTurns k phase first images sides made = Turns k phase first (progressed images sides made.map k.sectors made.skip)
+abbrev pub ReadsInTurns : {S : Type 0} → Kept S → Phase → Progressed S → S → Sides → List Run → Type 0
+ReadsInTurns k phase first images sides runs = (skip : ℕ) × (turned : ℕ) × Turns k phase first (progressed images sides runs k.sectors skip turned)

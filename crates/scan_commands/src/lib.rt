@@ -41,5 +41,4 @@ pub use report::{has_missing, say_counts, tell_counts};
 pub use rescue_fault::PassFault;
 pub use scan::{ScanPlan, scan_device};
 pub use tree::say_tree;
-pub use turn_reads::ReadMap;
 pub use turns::read_in_turns;

@@ -110,7 +110,7 @@ fn read_large_in_turns<'a, I: Images, D: BlockDev, O: SyncDev, P: Progress>(
     let skimmed = read_in_turns(alloc, images, stack, device, out, first, none, progress)?;
     let second = MapFile {
         file,
-        map: skimmed.map,
+        map: skimmed,
         phase: Phase::Sweep,
         no_scrape,
     };
@@ -118,7 +118,7 @@ fn read_large_in_turns<'a, I: Images, D: BlockDev, O: SyncDev, P: Progress>(
     let stack = &mut passing.stack;
     let out = &mut passing.out;
     let swept = read_in_turns(alloc, images, stack, device, out, second, none, progress)?;
-    Ok(swept.map)
+    Ok(swept)
 }
 
 // Runs the last pass, and reports its lost runs with the bad sectors that it left, of which these runs are known.
@@ -151,8 +151,8 @@ fn report_last<'a, I: Images, D: BlockDev, O: SyncDev, L: Listing, P: Progress>(
     if kept.refused.is_some() {
         return Err(PassFault::NoMemory);
     }
-    tell_among_bad(listing, &made.map, known, kept.runs.as_slice());
-    Ok(counts_of(totals_of(&made.map)))
+    tell_among_bad(listing, &made, known, kept.runs.as_slice());
+    Ok(counts_of(totals_of(&made)))
 }
 
 // The counts of a map.

@@ -67,7 +67,7 @@ pub(crate) fn retry_in_turns<'a, I: Images, D: BlockDev, O: SyncDev, P: Progress
             &mut NoListing,
             progress,
         )?;
-        left = read.map;
+        left = read;
         passes += 1;
     }
     Ok(TriedMap { map: left, passes })

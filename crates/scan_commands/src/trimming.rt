@@ -59,8 +59,5 @@ pub(crate) fn trim_in_turns<'a, I: Images, D: BlockDev, O: SyncDev, P: Progress>
     if known.refused.is_some() {
         return Err(PassFault::NoMemory);
     }
-    Ok(TrimmedMap {
-        map: made.map,
-        known,
-    })
+    Ok(TrimmedMap { map: made, known })
 }

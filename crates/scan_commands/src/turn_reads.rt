@@ -13,11 +13,12 @@ use device_adapters::Progress;
 use rescue_map::{Map, Span};
 use stack_config::DevId;
 use stack_engine::Stack;
-use stack_recovery::{Deadline, DevicePass, FirstPass, Listing, RecoveryFault, rescue, skim};
+use stack_recovery::{Deadline, DevicePass, FirstPass, Listing, RecoveryFault, Way, rescue, skim};
 use std::alloc::Global;
 
 /// A turn of a pass: whether a later pass scrapes, its sectors, the map before it, the map that the turn reads by, how many sectors the pass
-/// skips after its next failed read, and when the turn ends early.
+/// skips after its next failed read, the first sector of a run that the turn before would have read backwards (0 if none), and when the turn
+/// ends early.
 #[derive(Clone, Copy)]
 pub(crate) struct NextTurn<'a> {
     pub(crate) phase: Phase,
@@ -28,15 +29,17 @@ pub(crate) struct NextTurn<'a> {
     pub(crate) map: &'a Map,
     pub(crate) wanted: &'a Map,
     pub(crate) skip: u64,
+    pub(crate) turned: u64,
     pub(crate) deadline: Option<Deadline>,
 }
 
-/// The map of the sectors that were read, in which the failed pieces of a pass in large pieces are bad, and how many sectors the pass skips
-/// after its next failed read.
+/// The map of the sectors that were read, in which the failed pieces of a pass in large pieces are bad, how many sectors the pass skips
+/// after its next failed read, and the way that it would go on.
 #[derive(Drop)]
-pub struct ReadMap {
-    pub map: Map,
-    pub skip: u64,
+pub(crate) struct ReadMap {
+    pub(crate) map: Map,
+    pub(crate) skip: u64,
+    pub(crate) way: Way,
 }
 
 /// Reads the sectors of a turn until its time is up.
@@ -70,6 +73,7 @@ pub(crate) fn read_turn<D: BlockDev, O: SyncDev, L: Listing, P: Progress>(
     let pass = DevicePass {
         device: d,
         no_scrape: is_trim(turn.phase),
+        turned: turn.turned,
         deadline: turn.deadline,
     };
     match turn.phase {
@@ -101,6 +105,7 @@ fn skim_left<D: BlockDev, O: SyncDev, P: Progress>(
     Ok(ReadMap {
         map: skimmed.map,
         skip: skimmed.skip,
+        way: Way::Forward,
     })
 }
 
@@ -125,5 +130,6 @@ fn read_left<D: BlockDev, O: SyncDev, L: Listing, P: Progress>(
     Ok(ReadMap {
         map: rescued.map,
         skip: 0,
+        way: rescued.course.way,
     })
 }

@@ -11,8 +11,8 @@ ghost use Rattle.scan_commands.specs.TurnCalls.{GoesOn, ReadsByFile, StopsByFile
 use crate::map_file::{MapFile, MapPath};
 use crate::phase::{most_skipped, step_of};
 use crate::rescue_fault::PassFault;
-use crate::turn_map::asked;
-use crate::turn_reads::{NextTurn, ReadMap, read_turn};
+use crate::turn_map::{asked, stepped_backwards, turned_by};
+use crate::turn_reads::{NextTurn, read_turn};
 use block_device::{BlockDev, DeviceFault, SyncDev};
 use device_adapters::Progress;
 use image_files::Images;
@@ -101,12 +101,14 @@ fn keep_map<'a, I: Images>(
     }
 }
 
-/// The map after a turn, the sector before which the turn ended, and how many sectors the pass skips after its next failed read.
+/// The map after a turn, the sector before which the turn ended, how many sectors the pass skips after its next failed read, and the first
+/// sector of the run that it would read backwards, 0 if there is none.
 #[derive(Drop)]
 struct TurnEnd {
     map: Map,
     at: u64,
     skip: u64,
+    turned: u64,
 }
 
 // Reads the sectors of a turn until its time is up. If there is a map file, syncs the other device, and replaces the map file.
@@ -139,12 +141,14 @@ fn take_turn<'a, I: Images, D: BlockDev, O: SyncDev, L: Listing, P: Progress>(
     let count = at - first;
     let span = Span { first, count };
     let step = step_of(turn.phase);
-    let map = stepped(alloc, turn.map, &read.map, span, turn.sectors, step)?;
+    let forwards = stepped(alloc, turn.map, &read.map, span, turn.sectors, step)?;
+    let map = stepped_backwards(alloc, forwards, read.way, turn.sectors, step)?;
     keep_map(alloc, images, turn.file, &map, turn.no_scrape)?;
     Ok(TurnEnd {
         map,
         at,
         skip: read.skip,
+        turned: turned_by(read.way, at),
     })
 }
 
@@ -172,7 +176,7 @@ pub fn read_in_turns<'a, I: Images, D: BlockDev, O: SyncDev, L: Listing, P: Prog
     kept: MapFile<'_>,
     listing: &mut L,
     progress: &mut P,
-) -> Result<ReadMap, PassFault<'a>>
+) -> Result<Map, PassFault<'a>>
     requires device { d.0 < length stack.old.config.devices }
     requires fits { length (marks kept.map) ≡ size stack.old.config (mapped d.0) }
     requires room { size stack.old.config (mapped d.0) ≤ (O.state out.old).size }
@@ -189,6 +193,7 @@ pub fn read_in_turns<'a, I: Images, D: BlockDev, O: SyncDev, L: Listing, P: Prog
         no_scrape,
     } = kept;
     let mut skip = LEAST_SKIP.min(most_skipped(phase, sectors));
+    let mut turned = 0;
     let mut at = 0;
     'turns: while at < sectors {
         let count = turn_len(file, sectors).min(sectors - at);
@@ -206,13 +211,15 @@ pub fn read_in_turns<'a, I: Images, D: BlockDev, O: SyncDev, L: Listing, P: Prog
                 map: &map,
                 wanted: &wanted,
                 skip,
+                turned,
                 deadline: turn_deadline(file, at, progress),
             };
             let ended = take_turn(alloc, images, stack, d, out, turn, listing, progress)?;
             map = ended.map;
             at = ended.at;
             skip = ended.skip;
+            turned = ended.turned;
         }
     }
-    Ok(ReadMap { map, skip })
+    Ok(map)
 }

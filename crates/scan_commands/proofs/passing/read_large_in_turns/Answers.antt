@@ -33,10 +33,10 @@ returns-in_err-skimmed-clause-err g c =
 pub returns-in_err-swept-clause-err : goal.returns-in_err-swept-clause-err
 returns-in_err-swept-clause-err g c =
     let scan : Scanned = scanned c.args.passing.now.device.0 c.args.passing.now.no_scrape in
-    let between = after_turns c.read_in_turns.new.images c.read_in_turns.new.stack (g.O.BlockDev.state c.read_in_turns.new.out) c.in_ok-skimmed.skimmed.map in
+    let between = after_turns c.read_in_turns.new.images c.read_in_turns.new.stack (g.O.BlockDev.state c.read_in_turns.new.out) c.in_ok-skimmed.skimmed in
     err-from c.from_residual-in_err-swept.result _ c.in_err-swept.field-0.0 c.from_residual-in_err-swept.ensures.1 (inr (
       between,
-      (listed None true, listed None true, c.in_ok-skimmed.skimmed.skip, c.in_ok-skimmed.ensures.ok),
+      (listed None true, listed None true, c.in_ok-skimmed.ensures.ok),
       (
         listed None true,
         listed None true,
@@ -47,14 +47,13 @@ returns-in_err-swept-clause-err g c =
 pub returns-clause-ok : goal.returns-clause-ok
 returns-clause-ok g c =
     let scan : Scanned = scanned c.args.passing.now.device.0 c.args.passing.now.no_scrape in
-    let between = after_turns c.read_in_turns.new.images c.read_in_turns.new.stack (g.O.BlockDev.state c.read_in_turns.new.out) c.in_ok-skimmed.skimmed.map in
+    let between = after_turns c.read_in_turns.new.images c.read_in_turns.new.stack (g.O.BlockDev.state c.read_in_turns.new.out) c.in_ok-skimmed.skimmed in
     record {
       between = between;
-      skims = (listed None true, listed None true, c.in_ok-skimmed.skimmed.skip, c.in_ok-skimmed.ensures.ok);
+      skims = (listed None true, listed None true, c.in_ok-skimmed.ensures.ok);
       sweeps = (
         listed None true,
         listed None true,
-        c.in_ok-swept.swept.skip,
         whole-turns g.I.Images.relations.replaces (option_map map_path_of c.args.file) scan _ _ Sweep Sweep (λ (p : Phase) (n : ℕ). pass_from p n between (listed None true)) _ _ _ c.in_ok-skimmed.ensures.goes_on.config refl c.in_ok-swept.ensures.ok,
       );
     }

@@ -43,10 +43,10 @@ passes-preserved g c =
     let replaces = g.I.Images.relations.replaces in
     let goes = c.in_ok-read.ensures.goes_on in
     let now = after_turns c.passes.images c.passes.passing.stack (g.O.BlockDev.state c.passes.passing.out) c.passes.left in
-    let next = after_turns c.read_in_turns.new.images c.read_in_turns.new.stack (g.O.BlockDev.state c.read_in_turns.new.out) c.in_ok-read.read.map in
+    let next = after_turns c.read_in_turns.new.images c.read_in_turns.new.stack (g.O.BlockDev.state c.read_in_turns.new.out) c.in_ok-read.read in
     record {
       steps = more-steps (IsSilentTurns (kept replaces file scan (size c.args.passing.now.stack.config (mapped d)))) _ c.passes.passes _ now next (omega arith) u.steps
-          (_, _, c.in_ok-read.read.skip, whole-turns replaces file scan _ _ (phase_after c.args.passing.now.no_scrape c.passes.passes) _ (λ (p : Phase) (n : ℕ). pass_from p n now (listed None true)) _ _ _ u.left.config c.phase_after-phase.ensures c.in_ok-read.ensures.ok);
+          (_, _, whole-turns replaces file scan _ _ (phase_after c.args.passing.now.no_scrape c.passes.passes) _ (λ (p : Phase) (n : ℕ). pass_from p n now (listed None true)) _ _ _ u.left.config c.phase_after-phase.ensures c.in_ok-read.ensures.ok);
       few = omega (arith, c.passes-test.true);
       left = record {
         map = goes.map ∙ ap (λ (x : Configuration). size x (mapped d)) u.left.config;

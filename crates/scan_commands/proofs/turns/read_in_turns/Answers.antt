@@ -7,7 +7,7 @@ use Rattle.scan_commands.specs.declared.rescue_fault.PassFault.TheVariants.{NoMe
 use Rattle.stack_recovery.specs.PassPieces.{scanned}
 use Rattle.stack_recovery.specs.Recoveries.{sides}
 use Rattle.scan_commands.specs.MapFiles.{map_path_of}
-use Rattle.scan_commands.specs.Turns.{begins, begun_with, goes_on, made_map, passes}
+use Rattle.scan_commands.specs.Turns.{begins, begun_with, goes_on, passes}
 use Rattle.scan_commands.proofs.TurnLemmas.{err-from}
 use Rattle.scan_commands.proofs.NextTurnLemmas.{ends-as, turn-config, turn-out, whole-as}
 use Rattle.scan_commands.proofs.turns.read_in_turns.Goals.{then-is_had, else-is_had+in_ok-ended}
@@ -47,7 +47,7 @@ turns-preserved g c =
     let u = c.turns.invariant in
     let more : c.turns.at + c.min-count.result ≤ c.sectors-sectors.result = omega (arith, c.min-count.ensures, c.turns-test.true) in
     elim c.if-is_had.branch [
-      | then-is_had w ↦ rw (w.images-is, w.stack-is, w.out-is, w.listing-is, w.map-is, w.at-is, w.skip-is) (record {
+      | then-is_had w ↦ rw (w.images-is, w.stack-is, w.out-is, w.listing-is, w.map-is, w.at-is, w.skip-is, w.turned-is) (record {
         turns = passes u.turns (record {
           span = record { first = c.turns.at; count = c.min-count.result };
           next = record {
@@ -70,7 +70,7 @@ turns-preserved g c =
         allowed = u.allowed;
       })
       | else-is_had+in_ok-ended w ↦ let t = w.in_ok-ended.ensures.ok in
-          rw (w.images-is, w.stack-is, w.out-is, w.listing-is, w.map-is, w.at-is, w.skip-is) (record {
+          rw (w.images-is, w.stack-is, w.out-is, w.listing-is, w.map-is, w.at-is, w.skip-is, w.turned-is) (record {
             turns = goes_on u.turns t;
             map = w.in_ok-ended.ensures.sectors;
             within = omega (arith, t.here, t.next.inside);
@@ -91,9 +91,9 @@ pub returns-clause-ok : goal.returns-clause-ok
 returns-clause-ok g c =
     let u = c.turns.invariant in
     let end : c.turns.at ≡ c.sectors-sectors.result = omega (arith, u.within, c.turns-test.false) in
-    whole-as g.I.Images.relations.replaces (option_map map_path_of c.args.kept.file) c.args.kept.phase (scanned c.args.d.0 c.args.kept.no_scrape) c.sectors-sectors.result _ c.turns.at
+    whole-as g.I.Images.relations.replaces (option_map map_path_of c.args.kept.file) c.args.kept.phase (scanned c.args.d.0 c.args.kept.no_scrape) c.sectors-sectors.result _ c.turns.at c.turns.skip c.turns.turned
     (λ (n : ℕ). begun_with c.args.kept.phase n c.args.images.now (sides c.args.stack.now (g.O.BlockDev.state c.args.out.now) (g.L.Listing.told c.args.listing.now)) c.args.kept.map) c.turns.images
-    (sides c.turns.stack (g.O.BlockDev.state c.turns.out) (g.L.Listing.told c.turns.listing)) (made_map c.turns.map c.turns.skip) u.all end u.turns
+    (sides c.turns.stack (g.O.BlockDev.state c.turns.out) (g.L.Listing.told c.turns.listing)) c.turns.map u.all end u.turns
 
 pub returns-clause-goes_on : goal.returns-clause-goes_on
 returns-clause-goes_on g c =

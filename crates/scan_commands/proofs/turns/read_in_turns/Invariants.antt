@@ -12,7 +12,7 @@ abbrev pub invariant-turns : goal.invariant-turns
 invariant-turns g l = record {
   turns : Turns (kept g.I.Images.relations.replaces (option_map map_path_of l.fn.kept.file) (scanned l.fn.d.0 l.fn.kept.no_scrape) l.sectors) l.fn.kept.phase
       (begun_with l.fn.kept.phase l.sectors l.fn.images (sides l.fn.stack (g.O.BlockDev.state l.fn.out) (g.L.Listing.told l.fn.listing)) l.fn.kept.map)
-      (progressed l.images (sides l.stack (g.O.BlockDev.state l.out) (g.L.Listing.told l.listing)) l.map l.at l.skip);
+      (progressed l.images (sides l.stack (g.O.BlockDev.state l.out) (g.L.Listing.told l.listing)) l.map l.at l.skip l.turned);
   map : length (marks l.map) ≡ l.sectors;
   within : l.at ≤ l.sectors;
   all : l.sectors ≡ size l.fn.stack.config (mapped l.fn.d.0);
