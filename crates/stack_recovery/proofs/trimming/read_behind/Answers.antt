@@ -13,7 +13,7 @@ use Rattle.stack_engine.specs.Bytes.{EachBytes}
 use Rattle.stack_engine.specs.Pieces.{PieceGives}
 use Rattle.stack_recovery.specs.Trims.{no_probe, one_probed, probe_read}
 use Rattle.stack_recovery.proofs.lemmas.WritingLemmas.{err-from}
-use Rattle.stack_recovery.proofs.trimming.lost_end.Goals as goal
+use Rattle.stack_recovery.proofs.trimming.read_behind.Goals as goal
 
 pub pieces-init : goal.pieces-init
 pieces-init g c = record { reads = []; probed = no_probe; config = refl; within = omega arith }
