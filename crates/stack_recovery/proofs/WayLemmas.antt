@@ -1,28 +1,33 @@
 -- The way that a pass goes on, step by step.
-use Rattle.std.proofs.Common.{◌≡◌, ℕ, zero, suc, eqb, ◌+◌, ◌-◌, ◌*◌, ◌<◌, ◌≤◌, ◌||◌, Bool, true, false, cond, List, [], ◌∷◌, ◌++◌, length, Option, Ok, Err, inl, inr, refl, sym, ap, ◌∙◌, subst, arith}
+use Rattle.std.proofs.Common.{◌≡◌, ℕ, zero, suc, eqb, ◌+◌, ◌-◌, ◌*◌, ◌<◌, ◌≤◌, ◌⊎◌, ◌^◌, ◌||◌, Bool, true, false, IsTrue, None, cond, List, [], ◌∷◌, ◌++◌, length, Option, Ok, Err, inl, inr, refl, sym, ap, ◌∙◌, subst, arith}
 use Rattle.std.proofs.lemmas.Bool.{eqb-true, false≢true, ne_eqb}
+use Rattle.std.specs.Prelude.{replicate}
 use Rattle.block_device.specs.Call.{Call, Write}
-use Rattle.block_device.specs.Device.{Device}
+use Rattle.block_device.specs.Device.{Device, HasFailed, IsWritten, sectors_of, spliced}
 use Rattle.stack_engine.specs.Bytes.{EachBytes}
 use Rattle.stack_engine.specs.Stacks.{StackRecord}
 use Rattle.rescue_map.specs.declared.map.Run.{Run}
 use Rattle.rescue_map.specs.Maps.{losts, marks}
 use Rattle.runs.specs.Tallies.{listed}
 use Rattle.stack_rules.specs.Names.{mapped, size}
+use Rattle.stack_rules.specs.Records.{Configuration}
+use Rattle.stack_recovery.specs.declared.fault.RecoveryFault.{RecoveryFault}
+use Rattle.stack_recovery.specs.declared.fault.RecoveryFault.TheVariants as recovery
 use Rattle.stack_recovery.specs.declared.tally.Tally.{Tally}
 use Rattle.stack_recovery.specs.declared.trimming.LostEnd.{LostEnd}
 use Rattle.stack_recovery.specs.declared.way.Way.{Way}
 use Rattle.stack_recovery.specs.declared.way.Way.TheVariants.{Backward, Forward, Turned}
-use Rattle.stack_recovery.specs.LeafReads.{Ahead, CopiesLeaves, ahead, piece_behind, piece_failed, piece_further, sectors_copied, sectors_had}
+use Rattle.stack_recovery.specs.LeafReads.{Ahead, CopiesLeaves, EndsCopying, ahead, piece_behind, piece_failed, piece_further, sectors_copied, sectors_had}
 use Rattle.stack_recovery.specs.Listings.{Listed, Tells}
 use Rattle.stack_recovery.specs.PassPieces.{IsProbedTo, IsUnreadTo, IsWayInside, Pass, Scanned, pass_over, way_kept, way_lost, way_probed, way_trimmed}
-use Rattle.stack_recovery.specs.Recoveries.{NotesMore, Sides, sides}
+use Rattle.stack_recovery.specs.Handing.{HandsOverPart}
+use Rattle.stack_recovery.specs.Recoveries.{EndsEarly, NotesMore, RunsShort, Sides, parties, sides}
 use Rattle.stack_recovery.specs.Surveys.{AreMarked}
-use Rattle.stack_recovery.specs.Trims.{CopiesBehind, IsLostEnd}
+use Rattle.stack_recovery.specs.Trims.{CopiesBehind, IsLostEnd, StopsBehind}
 use Rattle.stack_recovery.specs.Ways.{is_copied, is_forward, low_of, way_past}
 use Rattle.stack_recovery.proofs.PieceLemmas.{unread-end, unread-rest}
-use Rattle.stack_recovery.proofs.UnderwayLemmas.{IsUnderway, underway-copied, underway-kept, underway-probed}
-use Rattle.std.proofs.lemmas.List.{replicate-length}
+use Rattle.stack_recovery.proofs.HandingLemmas.{IsHanding, hands-failed, hands-part}
+use Rattle.stack_recovery.proofs.UnderwayLemmas.{IsUnderway, fails-output, runs-short, underway-copied, underway-kept, underway-probed}
 
 -- ---- what holds of a way
 
@@ -62,6 +67,14 @@ forward-is (Backward low end) e = absurd (false≢true e)
 abbrev pub IsPast : Pass → ℕ → ℕ → Way → Type 0
 IsPast p at n (Backward low end) = (low ≡ at) × (end ≡ at + n) × AreMarked p.marks at n false
 IsPast p at n other = AreMarked p.marks at n true
+
+pub or-left : (a b : Bool) → a || b ≡ false → a ≡ false
+or-left false b e = refl
+or-left true b e = absurd (false≢true (sym e))
+
+pub or-right : (a b : Bool) → a || b ≡ false → b ≡ false
+or-right false b e = e
+or-right true b e = absurd (false≢true (sym e))
 
 or-true : (b : Bool) → b || false ≡ true → b ≡ true
 or-true true e = refl
@@ -182,3 +195,27 @@ module _ (makes_map : Bool) (before : List Bool) (scan : Scanned) (old now : Sid
       (subst (λ (x : Device). IsTrue x.steady → (seen o').image ≡ spliced x.image first (sectors_of (low - first) b.bytes)) same b.image)) in
       subst (λ (k : ℕ). IsUnderway makes_map before scan old (sides w' (seen o') now.printed) at tally noted (way_probed way first k) (calls ++ Write first b.bytes true ∷ [])) there
       (subst (λ (k : ℕ). IsUnderway makes_map before scan old (sides w' (seen o') now.printed) at tally noted (way_probed way k (at + (low - at))) (calls ++ Write k b.bytes true ∷ [])) here x)
+
+-- ---- why it ends there
+
+module _ (makes_map : Bool) (before : List Bool) (scan : Scanned) (old now : Sides) (at : ℕ) (tally : Tally) (noted : Option (List Run)) (way : Way) (calls : List Call) (u : IsUnderway makes_map before scan old now at tally noted way calls) where
+  pub stops-early : {D O : Type 0} (state : D → Device) (does : D → Call → D → Type 0) (seen : O → Device) (Did : O → Call → O → Type 0) (o o' : O) (w' : StackRecord) (fault : RecoveryFault) → seen o ≡ now.out → now.out.failures ≡ old.out.failures
+      → StopsBehind state does seen Did scan.d at now.stack o w' o' fault → EndsEarly makes_map before scan old (sides w' (seen o') now.printed) fault
+  stops-early state does seen Did o o' w' recovery.NoMemory same unfailed s =
+      subst (λ (x : Device). RunsShort makes_map before scan old (sides w' x now.printed)) (sym (ap seen s.1 ∙ same)) (runs-short makes_map before scan old now at tally noted way calls u w' unfailed (inl s.0.read))
+  stops-early state does seen Did o o' w' recovery.Output same unfailed s =
+      fails-output makes_map before scan old now at tally noted way calls u s.behind s.count s.bytes w' (seen o') s.answered (subst (λ (x : Device). IsWritten x (at + s.behind) s.count false (seen o')) same s.written)
+      (subst (λ (n : ℕ). (n < (seen o').failures) ⊎ (n ≡ 2 ^ 64 - 1)) (ap (λ (x : Device). x.failures) same ∙ unfailed) s.failed) (λ h. s.sure (subst (λ (x : Device). IsTrue x.never_fails) (sym same) (u.copied.same.never_fails h)))
+
+module _ {O L : Type 0} (Did : O → Call → O → Type 0) (makes_map : Bool) (before : List Bool) (scan : Scanned) (old now : Sides) (at : ℕ) (tally : Tally) (noted : Option (List Run)) (way : Way) (out out' : O) (h : IsHanding Did makes_map before scan old now at tally noted way out out') (a b : L) where
+  pub stops-handing : {D : Type 0} (state : D → Device) (does : D → Call → D → Type 0) (seen : O → Device) (w' : StackRecord) (o' : O) (fault : RecoveryFault) → StopsBehind state does seen Did scan.d at now.stack out' w' o' fault
+      → HandsOverPart Did before scan.d (parties old.stack out a) (parties w' o' b) fault
+  stops-handing state does seen w' o' recovery.NoMemory s =
+      subst (λ (x : O). HandsOverPart Did before scan.d (parties old.stack out a) (parties w' x b) recovery.NoMemory) (sym s.1) (hands-part Did makes_map before scan old now at tally noted way out out' h a b w')
+  stops-handing state does seen w' o' recovery.Output s = hands-failed Did makes_map before scan old now at tally noted way out out' h a b w' o' s.behind s.count s.bytes s.answered s.did
+
+module _ {D O : Type 0} (state : D → Device) (does : D → Call → D → Type 0) (Did : O → Call → O → Type 0) (before : List Bool) (d : ℕ) (w : StackRecord) (o : O) (at : ℕ) (v : StackRecord) (p : O) (a : Ahead) (h : CopiesLeaves state does Did before d w o at a v p) where
+  pub stops-called : (seen : O → Device) (w' : StackRecord) (p' : O) (fault : RecoveryFault) → StopsBehind state does seen Did d at v p w' p' fault → EndsCopying state does Did before d w o w' p'
+  stops-called seen w' p' recovery.NoMemory s =
+      subst (λ (x : O). EndsCopying state does Did before d w o w' x) (sym s.1) (inl (at + 0, a, piece_failed s.0.behind s.0.count 0 s.0.fault h s.0.given))
+  stops-called seen w' p' recovery.Output s = inr (record { at = at; copied = a; left = v; out = p; first = at + s.behind; count = s.count; bytes = s.bytes; so_far = h; given = s.given; rest = inr s.did })

@@ -143,7 +143,8 @@ fn go_over_by<D: BlockDev, O: BlockDev, L: Listing, P: Progress>(
             }
         } else {
             let low = low_of(way, at + run.count);
-            match read_behind(stack, d, at, low, out, room)? {
+            let behind = read_behind(stack, d, at, low, out, room)?;
+            match behind {
                 Behind::Copied(first) => way = way_probed(way, first, low),
                 Behind::Lost(last) => {
                     note_end(noted, last)?;

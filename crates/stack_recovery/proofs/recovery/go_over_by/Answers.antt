@@ -1,4 +1,4 @@
-use Rattle.std.proofs.Common.{◌≡◌, ◌⊎◌, ◌+◌, ◌-◌, ◌≤◌, ◌<◌, ◌*◌, ◌/◌, ◌^◌, ℕ, Bool, true, false, List, [], ◌∷◌, ◌++◌, replicate, Ok, Err, IsErrAnd, arith, refl, sym, ◌∙◌, ap, subst, length, take, is_some, inl, inr}
+use Rattle.std.proofs.Common.{add-zero, ◌≡◌, ◌⊎◌, ◌+◌, ◌-◌, ◌≤◌, ◌<◌, ◌*◌, ◌/◌, ◌^◌, ℕ, Bool, true, false, List, [], ◌∷◌, ◌++◌, replicate, Ok, Err, IsErrAnd, IsTrue, arith, refl, sym, ◌∙◌, ap, subst, length, take, is_some, inl, inr}
 use Rattle.std.proofs.lemmas.Bool.{false≢true}
 use Rattle.std.proofs.lemmas.List.{length-take-le}
 use Rattle.std.proofs.lemmas.Result.{err_from_is_err_and}
@@ -18,20 +18,24 @@ use Rattle.stack_recovery.specs.declared.fault.RecoveryFault.TheVariants.{NoMemo
 use Rattle.runs.specs.Tallies.{EndsAt}
 use Rattle.stack_recovery.specs.declared.tally.Tally.{Tally}
 use Rattle.stack_recovery.specs.Alike.{AreAlike}
-use Rattle.stack_recovery.specs.LeafReads.{CopiesLeaves, no_piece, sectors_had}
-use Rattle.stack_recovery.specs.PassPieces.{IsNextPiece, IsProbedTo, IsUnreadTo, MayReadOn, Trimming, forward, pass_over, trimming_found}
+use Rattle.stack_recovery.specs.LeafReads.{CopiesLeaves, ahead, no_piece}
+use Rattle.stack_recovery.specs.PassPieces.{IsNextPiece, IsProbedTo, IsUnreadTo, IsWayInside, pass_over, way_lost, way_trimmed}
 use Rattle.stack_recovery.specs.Pieces.{EndsAligned}
 use Rattle.stack_recovery.specs.Recoveries.{EndsEarly, Sides, scanned_by, sides}
 use Rattle.stack_recovery.specs.Stretches.{BeginsOtherwise}
-use Rattle.stack_recovery.specs.Surveys.{AreMarked, MayLose, lost}
-use Rattle.stack_recovery.specs.Trims.{ProbesBack}
+use Rattle.stack_recovery.specs.Surveys.{AreMarked, MayLose}
+use Rattle.stack_recovery.specs.Trims.{CopiesBehind, ReadsBehind}
+use Rattle.stack_recovery.specs.Ways.{is_forward, low_of, way_past}
+use Rattle.stack_recovery.specs.declared.way.Way.{Way}
+use Rattle.stack_recovery.specs.declared.way.Way.TheVariants.{Forward}
 use Rattle.stack_recovery.proofs.AheadLemmas.{ahead-few, ahead-inside, ahead-next, ahead-some, first-run, marked-next, notes-some}
 use Rattle.stack_recovery.proofs.HandingLemmas.{hands-failed, hands-in-run, hands-over, hands-part}
 use Rattle.stack_recovery.proofs.LeafReadLemmas.{copies-again, copies-failed, copies-had}
 use Rattle.stack_recovery.proofs.PieceLemmas.{next-piece, single-alike, unread-run}
 use Rattle.stack_recovery.proofs.SurveyLemmas.{no-memory}
-use Rattle.stack_recovery.proofs.TrimLemmas.{copies-probed, copies-stopped, copies-trimmed, ends-probing, probed-config, probed-within, probing, stops-memory, underway-trimmed}
-use Rattle.stack_recovery.proofs.UnderwayLemmas.{IsUnderway, closed-tally, counted-all, ended-on, ends-in-run, fails-output, few, note-room, runs-short, underway-had, underway-kept, underway-lost, underway-none, underway-until}
+use Rattle.stack_recovery.proofs.TrimLemmas.{underway-trimmed}
+use Rattle.stack_recovery.proofs.WayLemmas.{IsRegion, IsWayRun, called-behind, called-past, called-trimmed, forward-is, is-past, lost-any, or-left, or-right, past-any, probed-from, probed-some, probed-within, region-trimmed, run-behind, run-trimmed, stops-called, stops-early, stops-handing, underway-behind, underway-past, way-inside}
+use Rattle.stack_recovery.proofs.UnderwayLemmas.{IsUnderway, closed-tally, counted-all, ends-in-run, fails-output, few, note-room, runs-short, underway-had, underway-lost, underway-none, underway-until}
 use Rattle.stack_recovery.proofs.lemmas.WritingLemmas.{err-from}
 use Rattle.stack_recovery.proofs.recovery.go_over_by.Goals as goal
 
@@ -41,16 +45,16 @@ pieces-init g c =
     let before : List Bool = marks_ahead c.args.ahead in
     let all = c.sectors-sectors.ensures ∙ ap (λ (x : Configuration). size x (mapped c.args.pass.device.0)) c.config.ensures.value in
     record {
-      t = forward;
       so_far = record {
         calls = [];
-        under = subst (λ (t : Tally). IsUnderway (is_some c.args.noted.now) before (scanned_by c.args.pass) old old 0 t c.args.noted.now forward []) (sym c.new-tally.ensures)
+        under = subst (λ (t : Tally). IsUnderway (is_some c.args.noted.now) before (scanned_by c.args.pass) old old 0 t c.args.noted.now Forward []) (sym c.new-tally.ensures)
             (underway-none (is_some c.args.noted.now) before (scanned_by c.args.pass) old c.args.noted.now c.requires.begun.0 c.requires.begun.1);
         did = refl;
       };
-      turns = λ is. absurd (false≢true is);
-      reads_on = λ is. tt;
+      run = tt;
+      copied_ahead = ahead 0 0;
       called = no_piece;
+      region = tt;
       ahead = refl;
       config = refl;
       within = omega arith;
@@ -62,7 +66,7 @@ pieces-init g c =
 
 pub next_stretch-run-requires-clause-some : goal.next_stretch-run-requires-clause-some
 next_stretch-run-requires-clause-some g c =
-    ahead-some _ c.pieces.at c.sectors-sectors.result _ (c.requires.fits ∙ sym c.pieces.invariant.all) c.pieces.invariant.ahead (omega (arith, c.pieces-test.true, c.trim_end.ensures.few))
+    ahead-some _ c.pieces.at c.sectors-sectors.result _ (c.requires.fits ∙ sym c.pieces.invariant.all) c.pieces.invariant.ahead (omega (arith, c.pieces-test.true, c.pass_end.ensures.few))
 
 pub next_stretch-run-requires-clause-few : goal.next_stretch-run-requires-clause-few
 next_stretch-run-requires-clause-few g c =
@@ -93,25 +97,37 @@ overflow_add-at g c =
     let inside = ahead-inside (marks_ahead c.args.ahead) c.pieces.at c.sectors-sectors.result c.next_stretch-run.result.count c.next_stretch-run.result.had _ _ (c.requires.fits ∙ sym u.all) u.ahead first u.within in
     omega (arith, inside, u.few)
 
-pub pieces-preserved-then-run : goal.pieces-preserved-then-run
-pieces-preserved-then-run g c =
+pub pieces-preserved-then-is_past : goal.pieces-preserved-then-is_past
+pieces-preserved-then-is_past g c =
     let u = c.pieces.invariant in
     let before : List Bool = marks_ahead c.args.ahead in
+    let config : Configuration = c.args.stack.now.config in
+    let p = pass_over config c.args.pass.device.0 before in
     let here : Run = c.next_stretch-run.result in
-    let first = first-run c.pieces.ahead c.next_stretch-run.new.ahead here c.next_stretch-run.ensures.same c.next_stretch-run.ensures.first in
-    let inside = ahead-inside before c.pieces.at c.sectors-sectors.result here.count here.had _ _ (c.requires.fits ∙ sym u.all) u.ahead first u.within in
-    let marked : AreMarked before c.pieces.at here.count true = subst (AreMarked before c.pieces.at here.count) c.if-run.true (marked-next before c.pieces.at here.count here.count here.had _ (omega arith) (u.ahead ∙ first)) in
+    let first = first-run c.pieces.ahead c.next_stretch-run.new.ahead c.next_stretch-run.result c.next_stretch-run.ensures.same c.next_stretch-run.ensures.first in
+    let inside = ahead-inside (marks_ahead c.args.ahead) c.pieces.at c.sectors-sectors.result c.next_stretch-run.result.count c.next_stretch-run.result.had _ _ (c.requires.fits ∙ sym u.all) u.ahead first u.within in
+    let marked : AreMarked before c.pieces.at here.count here.had = marked-next before c.pieces.at here.count here.count here.had _ (omega arith) (u.ahead ∙ first) in
+    let run_end : here.had ≡ false → IsUnreadTo p c.pieces.at (c.pieces.at + here.count) = λ is.
+    unread-run config c.args.pass.device.0 before c.pieces.at here.count c.sectors-sectors.result (marks c.next_stretch-run.new.ahead.rest.now)
+    (u.ahead ∙ subst (λ (h : Bool). marks_ahead c.pieces.ahead ≡ replicate here.count h ++ marks c.next_stretch-run.new.ahead.rest.now) is first) (c.requires.fits ∙ sym u.all) u.within
+    inside u.all (subst (λ (h : Bool). BeginsOtherwise h (marks c.next_stretch-run.new.ahead.rest.now)) is c.next_stretch-run.ensures.longest) in
+    let past = is-past p c.pieces.at here.count c.pieces.way here.had c.next_stretch-run.ensures.some marked (sym c.is_past.ensures ∙ c.if-is_past.true) u.run run_end in
     let tally = closed-tally c.pieces.tally c.close.new.self c.close.ensures.last c.close.ensures.lost.0 c.close.ensures.lost.1 in
-    record {
-      t = forward;
-      turns = λ is. absurd (false≢true is);
-      reads_on = λ is. tt;
+    let old : Sides = sides c.args.stack.now (g.O.BlockDev.state c.args.out.now) (g.L.Listing.told c.args.listing.now) in
+    let now : Sides = sides c.pieces.stack (g.O.BlockDev.state c.pieces.out) (g.L.Listing.told c.pieces.listing) in
+    let new : Sides = sides c.pieces.stack (g.O.BlockDev.state c.pieces.out) (g.L.Listing.told c.close.new.listing) in
+    let way = way_past (scanned_by c.args.pass) c.pieces.way (c.pieces.at + here.count) in
+    rw c.way_past.ensures (record {
       so_far = record {
         calls = u.so_far.calls;
-        under = underway-kept _ _ _ _ _ _ _ _ _ _ u.so_far.under here.count (g.L.Listing.told c.close.new.listing) c.close.new.self c.note.new.noted c.next_stretch-run.ensures.some marked c.in_ok-note.ensures.ok c.in_ok-note.ensures.lost c.close.ensures.text tally;
+        under = underway-past (is_some c.args.noted.now) before (scanned_by c.args.pass) old now c.pieces.at c.pieces.tally c.pieces.noted c.pieces.way u.so_far.calls u.so_far.under here.count (g.L.Listing.told c.close.new.listing) c.close.new.self c.note.new.noted
+            c.next_stretch-run.ensures.some past c.in_ok-note.ensures.ok c.in_ok-note.ensures.lost c.close.ensures.text tally;
         did = u.so_far.did;
       };
-      called = sectors_had here.count u.called marked;
+      run = past-any {P = λ w. IsWayRun p (c.pieces.at + here.count) w} (scanned_by c.args.pass) c.pieces.way (c.pieces.at + here.count) tt tt;
+      copied_ahead = u.copied_ahead;
+      called = called-past g.D.BlockDev.state g.D.BlockDev.does (DeviceDoes g.O.BlockDev.state g.O.BlockDev.does) before config c.args.pass.device.0 c.args.stack.now c.args.out.now c.pieces.at c.pieces.stack c.pieces.out c.pieces.way u.copied_ahead here.count u.called u.region past;
+      region = past-any {P = λ w. IsRegion w u.copied_ahead} (scanned_by c.args.pass) c.pieces.way (c.pieces.at + here.count) tt tt;
       ahead = ahead-next before c.pieces.at here.count _ _ _ (u.ahead ∙ sym c.next_stretch-run.ensures.same) c.pass.ensures.marks;
       config = u.config;
       within = inside;
@@ -119,10 +135,10 @@ pieces-preserved-then-run g c =
       few = u.few;
       unfailed = u.unfailed;
       noted = notes-some marks c.pieces.noted c.note.new.noted _ c.in_ok-note.ensures.ok ∙ u.noted;
-    }
+    })
 
-pub overflow_add-at-else-turning : goal.overflow_add-at-else-turning
-overflow_add-at-else-turning g c =
+pub overflow_add-at-else-is_past : goal.overflow_add-at-else-is_past
+overflow_add-at-else-is_past g c =
     let u = c.pieces.invariant in
     let first = first-run c.pieces.ahead c.next_stretch-run.new.ahead c.next_stretch-run.result c.next_stretch-run.ensures.same c.next_stretch-run.ensures.first in
     let inside = ahead-inside (marks_ahead c.args.ahead) c.pieces.at c.sectors-sectors.result c.next_stretch-run.result.count c.next_stretch-run.result.had _ _ (c.requires.fits ∙ sym u.all) u.ahead first u.within in
@@ -134,7 +150,7 @@ piece_at-piece-requires-clause-inside g c =
     let count : ℕ = c.next_stretch-run.result.count in
     let first = first-run c.pieces.ahead c.next_stretch-run.new.ahead c.next_stretch-run.result c.next_stretch-run.ensures.same c.next_stretch-run.ensures.first in
     let inside = ahead-inside (marks_ahead c.args.ahead) c.pieces.at c.sectors-sectors.result count c.next_stretch-run.result.had _ _ (c.requires.fits ∙ sym u.all) u.ahead first u.within in
-    subst (λ (x : Configuration). c.pieces.at + count ≤ size x (mapped c.args.pass.device.0)) (sym (c.config-else-turning.ensures.value ∙ u.config)) (subst (λ (m : ℕ). c.pieces.at + count ≤ m) u.all inside)
+    subst (λ (x : Configuration). c.pieces.at + count ≤ size x (mapped c.args.pass.device.0)) (sym (c.config-else-is_past.ensures.value ∙ u.config)) (subst (λ (m : ℕ). c.pieces.at + count ≤ m) u.all inside)
 
 pub read_bytes-requires-clause-inside : goal.read_bytes-requires-clause-inside
 read_bytes-requires-clause-inside g c =
@@ -191,8 +207,9 @@ returns-in_err-write-in-Ok-clause-err g c =
     let len : length bytes ≡ 512 * n = piece.any.may.read.run.len in
     let count : length bytes / 512 ≡ n = omega (arith, len) in
     err-from c.from_residual-in_err-write-in-Ok.result _ Output c.from_residual-in_err-write-in-Ok.ensures.1
-    (fails-output _ _ _ _ _ _ _ _ _ _ u.so_far.under n bytes c.read_bytes.new.self (g.O.BlockDev.state c.write.new.self) piece
-    (subst (λ (m : ℕ). IsWritten (g.O.BlockDev.state c.pieces.out) c.pieces.at m false (g.O.BlockDev.state c.write.new.self)) count c.in_err-write-in-Ok.ensures.moved)
+    (fails-output _ _ _ _ _ _ _ _ _ _ u.so_far.under 0 n bytes c.read_bytes.new.self (g.O.BlockDev.state c.write.new.self)
+    (subst (λ (k : ℕ). EachBytes c.pieces.stack c.args.pass.device.0 k n (Ok bytes) c.read_bytes.new.self) (sym (add-zero c.pieces.at)) piece)
+    (subst (λ (k : ℕ). IsWritten (g.O.BlockDev.state c.pieces.out) k n false (g.O.BlockDev.state c.write.new.self)) (sym (add-zero c.pieces.at)) (subst (λ (m : ℕ). IsWritten (g.O.BlockDev.state c.pieces.out) c.pieces.at m false (g.O.BlockDev.state c.write.new.self)) count c.in_err-write-in-Ok.ensures.moved))
     (subst (λ (m : ℕ). (m < (g.O.BlockDev.state c.write.new.self).failures) ⊎ (m ≡ 2 ^ 64 - 1)) u.unfailed c.in_err-write-in-Ok.ensures.fault)
     (λ h. false≢true (c.in_err-write-in-Ok.ensures.sure (u.so_far.under.copied.same.never_fails h))))
 
@@ -204,7 +221,7 @@ pieces-preserved-in-Ok g c =
     let n : ℕ = c.piece_at-piece.result.count in
     let first = first-run c.pieces.ahead c.next_stretch-run.new.ahead here c.next_stretch-run.ensures.same c.next_stretch-run.ensures.first in
     let inside = ahead-inside before c.pieces.at c.sectors-sectors.result here.count here.had _ _ (c.requires.fits ∙ sym u.all) u.ahead first u.within in
-    let marked : AreMarked before c.pieces.at n false = subst (AreMarked before c.pieces.at n) c.if-run.false (marked-next before c.pieces.at n here.count here.had _ (omega (arith, c.piece_at-piece.ensures.inside)) (u.ahead ∙ first)) in
+    let marked : AreMarked before c.pieces.at n false = subst (AreMarked before c.pieces.at n) (or-left _ _ (sym c.is_past.ensures ∙ c.if-is_past.false)) (marked-next before c.pieces.at n here.count here.had _ (omega (arith, c.piece_at-piece.ensures.inside)) (u.ahead ∙ first)) in
     let wide : length (take (n * 512) c.pieces.room) ≡ n * 512 = length-take-le (n * 512) c.pieces.room (omega (arith, c.requires.buffer, c.pieces.auto.room, c.piece_at-piece.ensures.few)) in
     let number : length (take (n * 512) c.pieces.room) / 512 ≡ n = omega (arith, wide) in
     let bytes : List ℕ = c.read_bytes.new.out in
@@ -218,24 +235,25 @@ pieces-preserved-in-Ok g c =
     let same : c.from-count.result ≡ n = c.from-count.ensures in
     let next : IsNextPiece (pass_over c.args.stack.now.config c.args.pass.device.0 before) c.pieces.at 1 n =
     next-piece c.args.stack.now.config c.args.pass.device.0 before c.pieces.at here.count c.sectors-sectors.result 1 n (marks c.next_stretch-run.new.ahead.rest.now)
-    (u.ahead ∙ subst (λ (h : Bool). marks_ahead c.pieces.ahead ≡ replicate here.count h ++ marks c.next_stretch-run.new.ahead.rest.now) c.if-run.false first) (c.requires.fits ∙ sym u.all) u.within
-    inside u.all (subst (λ (h : Bool). BeginsOtherwise h (marks c.next_stretch-run.new.ahead.rest.now)) c.if-run.false c.next_stretch-run.ensures.longest)
-    (subst (λ (x : Configuration). EndsAligned x c.args.pass.device.0 c.pieces.at (c.pieces.at + here.count) 1 n) (c.config-else-turning.ensures.value ∙ u.config) c.piece_at-piece.ensures.ends) in
-    record {
-      t = forward;
-      turns = λ is. absurd (false≢true (sym c.if-turning.false ∙ is));
-      reads_on = λ is. tt;
+    (u.ahead ∙ subst (λ (h : Bool). marks_ahead c.pieces.ahead ≡ replicate here.count h ++ marks c.next_stretch-run.new.ahead.rest.now) (or-left _ _ (sym c.is_past.ensures ∙ c.if-is_past.false)) first) (c.requires.fits ∙ sym u.all) u.within
+    inside u.all (subst (λ (h : Bool). BeginsOtherwise h (marks c.next_stretch-run.new.ahead.rest.now)) (or-left _ _ (sym c.is_past.ensures ∙ c.if-is_past.false)) c.next_stretch-run.ensures.longest)
+    (subst (λ (x : Configuration). EndsAligned x c.args.pass.device.0 c.pieces.at (c.pieces.at + here.count) 1 n) (c.config-else-is_past.ensures.value ∙ u.config) c.piece_at-piece.ensures.ends) in
+    let forward : c.pieces.way ≡ Forward = forward-is c.pieces.way (sym c.is_forward.ensures ∙ c.if-is_forward.true) in
+    rw forward (record {
       so_far = record {
         calls = u.so_far.calls ++ Write c.pieces.at bytes true ∷ [];
-        under = subst (λ (m : ℕ). IsUnderway (is_some c.args.noted.now) before (scanned_by c.args.pass) old new (c.pieces.at + m) c.close-in-Ok.new.self c.note-in-Ok.new.noted forward (u.so_far.calls ++ Write c.pieces.at bytes true ∷ [])) (sym same)
+        under = subst (λ (m : ℕ). IsUnderway (is_some c.args.noted.now) before (scanned_by c.args.pass) old new (c.pieces.at + m) c.close-in-Ok.new.self c.note-in-Ok.new.noted Forward (u.so_far.calls ++ Write c.pieces.at bytes true ∷ [])) (sym same)
             (underway-had _ _ _ _ _ _ _ _ _ _ u.so_far.under n bytes c.read_bytes.new.self k _ (g.O.BlockDev.state c.write.new.self) (g.L.Listing.told c.close-in-Ok.new.listing) c.close-in-Ok.new.self c.note-in-Ok.new.noted
-            (u.reads_on c.if-turning.false) next
+            forward next
             c.piece_at-piece.ensures.some piece marked (rw same at c.in_ok-note-in-Ok.ensures.ok) (rw same at c.in_ok-note-in-Ok.ensures.lost) count c.in_ok-write-in-Ok.ensures.moved
             c.in_ok-write-in-Ok.ensures.image
             c.close-in-Ok.ensures.text tally);
         did = calls-last (DeviceDoes g.O.BlockDev.state g.O.BlockDev.does) c.args.out.now c.pieces.out c.write.new.self u.so_far.calls (Write c.pieces.at bytes true) u.so_far.did c.in_ok-write-in-Ok.ensures.call;
       };
-      called = copies-had g.D.BlockDev.state g.D.BlockDev.does (DeviceDoes g.O.BlockDev.state g.O.BlockDev.does) before c.args.pass.device.0 c.args.stack.now c.args.out.now c.pieces.at c.pieces.stack c.read_bytes.new.self c.pieces.out u.called (length (take (n * 512) c.pieces.room) / 512) c.from-count.result bytes c.write.new.self (number ∙ sym same) c.in-Ok.ensures.given c.in_ok-write-in-Ok.ensures.call;
+      run = tt;
+      copied_ahead = u.copied_ahead;
+      region = tt;
+      called = copies-had g.D.BlockDev.state g.D.BlockDev.does (DeviceDoes g.O.BlockDev.state g.O.BlockDev.does) before c.args.pass.device.0 c.args.stack.now c.args.out.now c.pieces.at c.pieces.stack c.read_bytes.new.self c.pieces.out u.copied_ahead u.called (length (take (n * 512) c.pieces.room) / 512) c.from-count.result bytes c.write.new.self (number ∙ sym same) c.in-Ok.ensures.given c.in_ok-write-in-Ok.ensures.call;
       ahead = ahead-next before c.pieces.at c.from-count.result _ _ _ (u.ahead ∙ sym c.next_stretch-run.ensures.same) c.pass-in-Ok.ensures.marks;
       config = c.in-Ok.ensures.any.config ∙ u.config;
       within = omega (arith, inside, same, c.piece_at-piece.ensures.inside);
@@ -243,7 +261,7 @@ pieces-preserved-in-Ok g c =
       few = u.few;
       unfailed = c.in_ok-write-in-Ok.ensures.moved.failures ∙ u.unfailed;
       noted = notes-some marks c.pieces.noted c.note-in-Ok.new.noted _ c.in_ok-note-in-Ok.ensures.ok ∙ u.noted;
-    }
+    })
 
 pub returns-in_err-check_memory-in-Err-clause-err : goal.returns-in_err-check_memory-in-Err-clause-err
 returns-in_err-check_memory-in-Err-clause-err g c =
@@ -268,7 +286,7 @@ returns-in_err-check_memory-in-Err-clause-called g c =
     let u = c.pieces.invariant in
     let count : ℕ = length (take (c.piece_at-piece.result.count * 512) c.pieces.room) / 512 in
     let p = err_from_is_err_and c.from_residual-in_err-check_memory-in-Err.result c.from_residual-in_err-check_memory-in-Err.ensures.1 in
-    rw p.1 (inl (c.pieces.at, copies-again g.D.BlockDev.state g.D.BlockDev.does (DeviceDoes g.O.BlockDev.state g.O.BlockDev.does) (marks_ahead c.args.ahead) c.args.pass.device.0 c.args.stack.now c.args.out.now c.pieces.at c.pieces.stack c.read_bytes.new.self c.pieces.out u.called count c.in-Err.fault c.in-Err.ensures.given))
+    rw p.1 (inl (c.pieces.at, u.copied_ahead, copies-again g.D.BlockDev.state g.D.BlockDev.does (DeviceDoes g.O.BlockDev.state g.O.BlockDev.does) (marks_ahead c.args.ahead) c.args.pass.device.0 c.args.stack.now c.args.out.now c.pieces.at c.pieces.stack c.read_bytes.new.self c.pieces.out u.copied_ahead u.called count c.in-Err.fault c.in-Err.ensures.given))
 
 pub lose_run-requires : goal.lose_run-requires
 lose_run-requires g c =
@@ -297,33 +315,34 @@ pieces-preserved g c =
     let n : ℕ = c.piece_at-piece.result.count in
     let first = first-run c.pieces.ahead c.next_stretch-run.new.ahead here c.next_stretch-run.ensures.same c.next_stretch-run.ensures.first in
     let inside = ahead-inside before c.pieces.at c.sectors-sectors.result here.count here.had _ _ (c.requires.fits ∙ sym u.all) u.ahead first u.within in
-    let marked : AreMarked before c.pieces.at n false = subst (AreMarked before c.pieces.at n) c.if-run.false (marked-next before c.pieces.at n here.count here.had _ (omega (arith, c.piece_at-piece.ensures.inside)) (u.ahead ∙ first)) in
+    let marked : AreMarked before c.pieces.at n false = subst (AreMarked before c.pieces.at n) (or-left _ _ (sym c.is_past.ensures ∙ c.if-is_past.false)) (marked-next before c.pieces.at n here.count here.had _ (omega (arith, c.piece_at-piece.ensures.inside)) (u.ahead ∙ first)) in
     let wide : length (take (n * 512) c.pieces.room) ≡ n * 512 = length-take-le (n * 512) c.pieces.room (omega (arith, c.requires.buffer, c.pieces.auto.room, c.piece_at-piece.ensures.few)) in
     let number : length (take (n * 512) c.pieces.room) / 512 ≡ n = omega (arith, wide) in
     let piece = subst (λ (m : ℕ). EachBytes c.pieces.stack c.args.pass.device.0 c.pieces.at m (Err c.in-Err.fault) c.read_bytes.new.self) number (record { any = c.in-Err.ensures.any; steady = c.in-Err.ensures.steady }) in
     let may : MayLose c.pieces.stack.config c.args.pass.device.0 c.pieces.at n c.in-Err.fault =
-    (subst (λ (x : Configuration). AreAlike x c.args.pass.device.0 c.pieces.at n) c.config-else-turning.ensures.value (single-alike _ _ _ _ c.piece_at-piece.result c.piece_at-piece.ensures), c.in_ok-check_memory-in-Err.ensures.ok) in
+    (subst (λ (x : Configuration). AreAlike x c.args.pass.device.0 c.pieces.at n) c.config-else-is_past.ensures.value (single-alike _ _ _ _ c.piece_at-piece.result c.piece_at-piece.ensures), c.in_ok-check_memory-in-Err.ensures.ok) in
     let old : Sides = sides c.args.stack.now (g.O.BlockDev.state c.args.out.now) (g.L.Listing.told c.args.listing.now) in
     let new : Sides = sides c.read_bytes.new.self (g.O.BlockDev.state c.pieces.out) (g.L.Listing.told c.lose_run.new.listing) in
     let same : c.from-count.result ≡ n = c.from-count.ensures in
     let next : IsNextPiece (pass_over c.args.stack.now.config c.args.pass.device.0 before) c.pieces.at 1 n =
     next-piece c.args.stack.now.config c.args.pass.device.0 before c.pieces.at here.count c.sectors-sectors.result 1 n (marks c.next_stretch-run.new.ahead.rest.now)
-    (u.ahead ∙ subst (λ (h : Bool). marks_ahead c.pieces.ahead ≡ replicate here.count h ++ marks c.next_stretch-run.new.ahead.rest.now) c.if-run.false first) (c.requires.fits ∙ sym u.all) u.within
-    inside u.all (subst (λ (h : Bool). BeginsOtherwise h (marks c.next_stretch-run.new.ahead.rest.now)) c.if-run.false c.next_stretch-run.ensures.longest)
-    (subst (λ (x : Configuration). EndsAligned x c.args.pass.device.0 c.pieces.at (c.pieces.at + here.count) 1 n) (c.config-else-turning.ensures.value ∙ u.config) c.piece_at-piece.ensures.ends) in
+    (u.ahead ∙ subst (λ (h : Bool). marks_ahead c.pieces.ahead ≡ replicate here.count h ++ marks c.next_stretch-run.new.ahead.rest.now) (or-left _ _ (sym c.is_past.ensures ∙ c.if-is_past.false)) first) (c.requires.fits ∙ sym u.all) u.within
+    inside u.all (subst (λ (h : Bool). BeginsOtherwise h (marks c.next_stretch-run.new.ahead.rest.now)) (or-left _ _ (sym c.is_past.ensures ∙ c.if-is_past.false)) c.next_stretch-run.ensures.longest)
+    (subst (λ (x : Configuration). EndsAligned x c.args.pass.device.0 c.pieces.at (c.pieces.at + here.count) 1 n) (c.config-else-is_past.ensures.value ∙ u.config) c.piece_at-piece.ensures.ends) in
     let noting = rw (c.lost_run-lost.ensures, same) at c.in_ok-lose_run-in-Err.ensures.noted in
-    record {
-      t = trimming_found c.args.pass.no_scrape c.pieces.at (lost c.in-Err.fault);
-      turns = λ is. ap (λ (b : Bool). trimming_found b c.pieces.at (lost c.in-Err.fault)) is;
-      reads_on = λ is. subst (λ (b : Bool). MayReadOn (trimming_found b c.pieces.at (lost c.in-Err.fault)) (c.pieces.at + c.from-count.result)) (sym is) tt;
+    let forward : c.pieces.way ≡ Forward = forward-is c.pieces.way (sym c.is_forward.ensures ∙ c.if-is_forward.true) in
+    rw c.way_lost.ensures (record {
       so_far = record {
         calls = u.so_far.calls;
-        under = subst (λ (m : ℕ). IsUnderway (is_some c.args.noted.now) before (scanned_by c.args.pass) old new (c.pieces.at + m) c.lose_run.new.tally c.lose_run.new.noted (trimming_found c.args.pass.no_scrape c.pieces.at (lost c.in-Err.fault)) u.so_far.calls) (sym same)
+        under = subst (λ (m : ℕ). IsUnderway (is_some c.args.noted.now) before (scanned_by c.args.pass) old new (c.pieces.at + m) c.lose_run.new.tally c.lose_run.new.noted (way_lost c.args.pass.no_scrape) u.so_far.calls) (sym same)
             (underway-lost _ _ _ _ _ _ _ _ _ _ u.so_far.under n c.in-Err.fault c.read_bytes.new.self (g.L.Listing.told c.lose_run.new.listing) c.lose_run.new.tally c.lose_run.new.noted
-            (u.reads_on c.if-turning.false) next c.piece_at-piece.ensures.some piece marked noting may (rw (c.lost_run-lost.ensures, same) at c.in_ok-lose_run-in-Err.ensures.told) (rw (c.lost_run-lost.ensures, same) at c.in_ok-lose_run-in-Err.ensures.tallied));
+            forward next c.piece_at-piece.ensures.some piece marked noting may (rw (c.lost_run-lost.ensures, same) at c.in_ok-lose_run-in-Err.ensures.told) (rw (c.lost_run-lost.ensures, same) at c.in_ok-lose_run-in-Err.ensures.tallied));
         did = u.so_far.did;
       };
-      called = copies-failed g.D.BlockDev.state g.D.BlockDev.does (DeviceDoes g.O.BlockDev.state g.O.BlockDev.does) before c.args.pass.device.0 c.args.stack.now c.args.out.now c.pieces.at c.pieces.stack c.read_bytes.new.self c.pieces.out u.called (length (take (n * 512) c.pieces.room) / 512) c.from-count.result c.in-Err.fault c.in-Err.ensures.given;
+      run = lost-any {P = λ w. IsWayRun (pass_over c.args.stack.now.config c.args.pass.device.0 before) (c.pieces.at + c.from-count.result) w} c.args.pass.no_scrape tt tt;
+      copied_ahead = u.copied_ahead;
+      region = lost-any {P = λ w. IsRegion w u.copied_ahead} c.args.pass.no_scrape tt tt;
+      called = copies-failed g.D.BlockDev.state g.D.BlockDev.does (DeviceDoes g.O.BlockDev.state g.O.BlockDev.does) before c.args.pass.device.0 c.args.stack.now c.args.out.now c.pieces.at c.pieces.stack c.read_bytes.new.self c.pieces.out u.copied_ahead u.called (length (take (n * 512) c.pieces.room) / 512) c.from-count.result c.in-Err.fault c.in-Err.ensures.given;
       ahead = ahead-next before c.pieces.at c.from-count.result _ _ _ (u.ahead ∙ sym c.next_stretch-run.ensures.same) c.pass-in-Err.ensures.marks;
       config = c.in-Err.ensures.any.config ∙ u.config;
       within = omega (arith, inside, same, c.piece_at-piece.ensures.inside);
@@ -331,7 +350,7 @@ pieces-preserved g c =
       few = u.few;
       unfailed = u.unfailed;
       noted = notes-some marks c.pieces.noted c.lose_run.new.noted _ noting.0 ∙ u.noted;
-    }
+    })
 
 pub finish-requires : goal.finish-requires
 finish-requires g c = few _ _ _ _ _ _ _ _ _ _ c.pieces.invariant.so_far.under
@@ -339,12 +358,12 @@ finish-requires g c = few _ _ _ _ _ _ _ _ _ _ c.pieces.invariant.so_far.under
 pub returns-clause-ok : goal.returns-clause-ok
 returns-clause-ok g c =
     let u = c.pieces.invariant in
-    underway-until _ _ _ _ _ _ _ _ _ _ u.so_far.under c.args.pass.deadline (g.L.Listing.told c.finish.new.listing) c.sectors-sectors.result c.finish.result (c.trim_end.ensures.ends c.pieces-test.false) u.all
-    c.finish.ensures.text c.finish.ensures.value u.unfailed u.noted
-    (ended-on c.pieces.turning u.t c.pieces.at c.sectors-sectors.result c.trim_end.result u.within c.pieces-test.false c.trim_end.ensures.trimmed u.reads_on)
+    let p = pass_over c.args.stack.now.config c.args.pass.device.0 (marks_ahead c.args.ahead) in
+    underway-until _ _ _ _ _ _ _ _ _ _ u.so_far.under c.args.pass.deadline (g.L.Listing.told c.finish.new.listing) c.sectors-sectors.result (record { counts = c.finish-counts.result; way = c.pieces.way }) (c.pass_end.ensures.ends c.pieces-test.false) u.all
+    c.finish-counts.ensures.text c.finish-counts.ensures.value refl u.unfailed (subst (λ (n : ℕ). IsWayInside c.pieces.at c.pieces.way n) (sym u.all) (way-inside p c.pieces.at c.pieces.way u.run))
 
 pub returns-clause-handed : goal.returns-clause-handed
-returns-clause-handed g c = hands-over _ _ _ _ _ _ _ _ _ _ _ _ c.pieces.invariant.so_far c.args.listing.now c.finish.new.listing c.finish.result c.finish.ensures.value
+returns-clause-handed g c = hands-over _ _ _ _ _ _ _ _ _ _ _ _ c.pieces.invariant.so_far c.args.listing.now c.finish-counts.new.listing c.finish-counts.result c.finish-counts.ensures.value
 
 pub returns-in_err-note-clause-stopped : goal.returns-in_err-note-clause-stopped
 returns-in_err-note-clause-stopped g c =
@@ -364,7 +383,9 @@ returns-in_err-write-in-Ok-clause-stopped g c =
     let bytes : List ℕ = c.read_bytes.new.out in
     let piece = subst (λ (m : ℕ). EachBytes c.pieces.stack c.args.pass.device.0 c.pieces.at m (Ok bytes) c.read_bytes.new.self) number (record { any = c.in-Ok.ensures.any; steady = c.in-Ok.ensures.steady }) in
     err-from c.from_residual-in_err-write-in-Ok.result _ Output c.from_residual-in_err-write-in-Ok.ensures.1
-    (hands-failed _ _ _ _ _ _ _ _ _ _ _ _ c.pieces.invariant.so_far c.args.listing.now c.pieces.listing c.read_bytes.new.self c.write.new.self n bytes piece c.in_err-write-in-Ok.ensures.call)
+    (hands-failed _ _ _ _ _ _ _ _ _ _ _ _ c.pieces.invariant.so_far c.args.listing.now c.pieces.listing c.read_bytes.new.self c.write.new.self 0 n bytes
+    (subst (λ (k : ℕ). EachBytes c.pieces.stack c.args.pass.device.0 k n (Ok bytes) c.read_bytes.new.self) (sym (add-zero c.pieces.at)) piece)
+    (subst (λ (k : ℕ). DeviceDoes g.O.BlockDev.state g.O.BlockDev.does c.pieces.out (Write k bytes false) c.write.new.self) (sym (add-zero c.pieces.at)) c.in_err-write-in-Ok.ensures.call))
 
 pub returns-in_err-lose_run-in-Err-clause-stopped : goal.returns-in_err-lose_run-in-Err-clause-stopped
 returns-in_err-lose_run-in-Err-clause-stopped g c =
@@ -375,117 +396,194 @@ returns-in_err-lose_run-in-Err-clause-stopped g c =
 pub returns-clause-called : goal.returns-clause-called
 returns-clause-called g c =
     let u = c.pieces.invariant in
-    subst (λ (n : ℕ). CopiesLeaves g.D.BlockDev.state g.D.BlockDev.does (DeviceDoes g.O.BlockDev.state g.O.BlockDev.does) (marks_ahead c.args.ahead) c.args.pass.device.0 c.args.stack.now c.args.out.now n c.pieces.stack c.pieces.out)
-    (counted-all _ _ _ _ _ _ _ _ _ _ u.so_far.under c.finish.result c.finish.ensures.value) u.called
+    (u.copied_ahead, subst (λ (n : ℕ). CopiesLeaves g.D.BlockDev.state g.D.BlockDev.does (DeviceDoes g.O.BlockDev.state g.O.BlockDev.does) (marks_ahead c.args.ahead) c.args.pass.device.0 c.args.stack.now c.args.out.now n u.copied_ahead c.pieces.stack c.pieces.out)
+    (counted-all _ _ _ _ _ _ _ _ _ _ u.so_far.under c.finish-counts.result c.finish-counts.ensures.value) u.called)
 
 pub returns-in_err-note-clause-called : goal.returns-in_err-note-clause-called
 returns-in_err-note-clause-called g c =
     let p = err_from_is_err_and c.from_residual.result c.from_residual.ensures.1 in
-    rw p.1 (inl (c.pieces.at, c.pieces.invariant.called))
+    rw p.1 (inl (c.pieces.at, c.pieces.invariant.copied_ahead, c.pieces.invariant.called))
 
 pub returns-in_err-note-in-Ok-clause-called : goal.returns-in_err-note-in-Ok-clause-called
 returns-in_err-note-in-Ok-clause-called g c =
     let u = c.pieces.invariant in
     let count : ℕ = length (take (c.piece_at-piece.result.count * 512) c.pieces.room) / 512 in
     let p = err_from_is_err_and c.from_residual-in_err-note-in-Ok.result c.from_residual-in_err-note-in-Ok.ensures.1 in
-    rw p.1 (inr (record { at = c.pieces.at; left = c.pieces.stack; out = c.pieces.out; count = count; bytes = c.read_bytes.new.out; so_far = u.called; given = c.in-Ok.ensures.given; rest = inl refl }))
+    rw p.1 (inr (record { at = c.pieces.at; copied = u.copied_ahead; left = c.pieces.stack; out = c.pieces.out; first = c.pieces.at; count = count; bytes = c.read_bytes.new.out; so_far = u.called; given = c.in-Ok.ensures.given; rest = inl refl }))
 
 pub returns-in_err-write-in-Ok-clause-called : goal.returns-in_err-write-in-Ok-clause-called
 returns-in_err-write-in-Ok-clause-called g c =
     let u = c.pieces.invariant in
     let count : ℕ = length (take (c.piece_at-piece.result.count * 512) c.pieces.room) / 512 in
     let p = err_from_is_err_and c.from_residual-in_err-write-in-Ok.result c.from_residual-in_err-write-in-Ok.ensures.1 in
-    rw p.1 (inr (record { at = c.pieces.at; left = c.pieces.stack; out = c.pieces.out; count = count; bytes = c.read_bytes.new.out; so_far = u.called; given = c.in-Ok.ensures.given; rest = inr c.in_err-write-in-Ok.ensures.call }))
+    rw p.1 (inr (record { at = c.pieces.at; copied = u.copied_ahead; left = c.pieces.stack; out = c.pieces.out; first = c.pieces.at; count = count; bytes = c.read_bytes.new.out; so_far = u.called; given = c.in-Ok.ensures.given; rest = inr c.in_err-write-in-Ok.ensures.call }))
 
 pub returns-in_err-lose_run-in-Err-clause-called : goal.returns-in_err-lose_run-in-Err-clause-called
 returns-in_err-lose_run-in-Err-clause-called g c =
     let u = c.pieces.invariant in
     let count : ℕ = length (take (c.piece_at-piece.result.count * 512) c.pieces.room) / 512 in
     let p = err_from_is_err_and c.from_residual-in_err-lose_run-in-Err.result c.from_residual-in_err-lose_run-in-Err.ensures.1 in
-    rw p.1 (inl (c.pieces.at, copies-again g.D.BlockDev.state g.D.BlockDev.does (DeviceDoes g.O.BlockDev.state g.O.BlockDev.does) (marks_ahead c.args.ahead) c.args.pass.device.0 c.args.stack.now c.args.out.now c.pieces.at c.pieces.stack c.read_bytes.new.self c.pieces.out u.called count c.in-Err.fault c.in-Err.ensures.given))
+    rw p.1 (inl (c.pieces.at, u.copied_ahead, copies-again g.D.BlockDev.state g.D.BlockDev.does (DeviceDoes g.O.BlockDev.state g.O.BlockDev.does) (marks_ahead c.args.ahead) c.args.pass.device.0 c.args.stack.now c.args.out.now c.pieces.at c.pieces.stack c.read_bytes.new.self c.pieces.out u.copied_ahead u.called count c.in-Err.fault c.in-Err.ensures.given))
 
-pub overflow_add-at-then-turning : goal.overflow_add-at-then-turning
-overflow_add-at-then-turning g c =
+pub overflow_add-at-else-is_forward : goal.overflow_add-at-else-is_forward
+overflow_add-at-else-is_forward g c =
     let u = c.pieces.invariant in
     let first = first-run c.pieces.ahead c.next_stretch-run.new.ahead c.next_stretch-run.result c.next_stretch-run.ensures.same c.next_stretch-run.ensures.first in
     let inside = ahead-inside (marks_ahead c.args.ahead) c.pieces.at c.sectors-sectors.result c.next_stretch-run.result.count c.next_stretch-run.result.had _ _ (c.requires.fits ∙ sym u.all) u.ahead first u.within in
     omega (arith, inside, u.few)
 
-pub lost_end-requires-clause-inside : goal.lost_end-requires-clause-inside
-lost_end-requires-clause-inside g c =
+pub read_behind-requires-clause-inside : goal.read_behind-requires-clause-inside
+read_behind-requires-clause-inside g c =
     let u = c.pieces.invariant in
-    let first = first-run c.pieces.ahead c.next_stretch-run.new.ahead c.next_stretch-run.result c.next_stretch-run.ensures.same c.next_stretch-run.ensures.first in
-    let inside = ahead-inside (marks_ahead c.args.ahead) c.pieces.at c.sectors-sectors.result c.next_stretch-run.result.count c.next_stretch-run.result.had _ _ (c.requires.fits ∙ sym u.all) u.ahead first u.within in
-    let end : ℕ = c.pieces.at + c.next_stretch-run.result.count in
-    subst (λ (x : Configuration). end ≤ size x (mapped c.args.pass.device.0)) (sym u.config) (subst (λ (m : ℕ). end ≤ m) u.all inside)
-
-pub returns-in_err-last-clause-err : goal.returns-in_err-last-clause-err
-returns-in_err-last-clause-err g c =
-    let u = c.pieces.invariant in
-    let first = first-run c.pieces.ahead c.next_stretch-run.new.ahead c.next_stretch-run.result c.next_stretch-run.ensures.same c.next_stretch-run.ensures.first in
-    let inside = ahead-inside (marks_ahead c.args.ahead) c.pieces.at c.sectors-sectors.result c.next_stretch-run.result.count c.next_stretch-run.result.had _ _ (c.requires.fits ∙ sym u.all) u.ahead first u.within in
-    let end : ℕ = c.pieces.at + c.next_stretch-run.result.count in
     let before : List Bool = marks_ahead c.args.ahead in
+    let config : Configuration = c.args.stack.now.config in
+    let p = pass_over config c.args.pass.device.0 before in
+    let here : Run = c.next_stretch-run.result in
+    let at : ℕ = c.pieces.at in
+    let first = first-run c.pieces.ahead c.next_stretch-run.new.ahead c.next_stretch-run.result c.next_stretch-run.ensures.same c.next_stretch-run.ensures.first in
+    let inside = ahead-inside (marks_ahead c.args.ahead) c.pieces.at c.sectors-sectors.result c.next_stretch-run.result.count c.next_stretch-run.result.had _ _ (c.requires.fits ∙ sym u.all) u.ahead first u.within in
+    let had : here.had ≡ false = (or-left _ _ (sym c.is_past.ensures ∙ c.if-is_past.false)) in
+    let run_end : IsUnreadTo p at (at + here.count) =
+    unread-run config c.args.pass.device.0 before at here.count c.sectors-sectors.result (marks c.next_stretch-run.new.ahead.rest.now)
+    (u.ahead ∙ subst (λ (h : Bool). marks_ahead c.pieces.ahead ≡ replicate here.count h ++ marks c.next_stretch-run.new.ahead.rest.now) had first) (c.requires.fits ∙ sym u.all) u.within
+    inside u.all (subst (λ (h : Bool). BeginsOtherwise h (marks c.next_stretch-run.new.ahead.rest.now)) had c.next_stretch-run.ensures.longest) in
+    let low : ℕ = low_of c.pieces.way (at + here.count) in
+    let low_is : c.low_of-low.result ≡ low = c.low_of-low.ensures in
+    let turned : is_forward c.pieces.way ≡ false = sym c.is_forward.ensures ∙ c.if-is_forward.false in
+    let probed : IsProbedTo p at c.pieces.way low = probed-from p at here.count c.next_stretch-run.ensures.some c.pieces.way turned run_end in
+    let after : at < low = probed-some p at here.count c.next_stretch-run.ensures.some c.pieces.way u.run (or-right _ _ (sym c.is_past.ensures ∙ c.if-is_past.false)) in
+    let below : low ≤ at + here.count = probed-within p at here.count c.next_stretch-run.ensures.some c.pieces.way u.run run_end in
+    let marked : AreMarked before at (low - at) false = λ j less. run_end.unread j (omega (arith, less, below)) in
+    (omega (arith, after, low_is), subst (λ (x : Configuration). c.low_of-low.result ≤ size x (mapped c.args.pass.device.0)) (sym u.config) (subst (λ (m : ℕ). c.low_of-low.result ≤ m) u.all (omega (arith, below, low_is, inside))))
+
+pub read_behind-requires-clause-room : goal.read_behind-requires-clause-room
+read_behind-requires-clause-room g c =
+    let u = c.pieces.invariant in
+    (omega (arith, c.requires.room, u.so_far.under.copied.same.size, ap (λ (x : Configuration). size x (mapped c.args.pass.device.0)) u.config), subst IsTrue (sym u.so_far.under.copied.same.may_write) c.requires.allowed)
+
+pub returns-in_err-behind-clause-err : goal.returns-in_err-behind-clause-err
+returns-in_err-behind-clause-err g c =
+    let u = c.pieces.invariant in
     let old : Sides = sides c.args.stack.now (g.O.BlockDev.state c.args.out.now) (g.L.Listing.told c.args.listing.now) in
     let now : Sides = sides c.pieces.stack (g.O.BlockDev.state c.pieces.out) (g.L.Listing.told c.pieces.listing) in
-    let whole : IsUnreadTo (pass_over c.args.stack.now.config c.args.pass.device.0 before) c.pieces.at end =
-    unread-run c.args.stack.now.config c.args.pass.device.0 before c.pieces.at c.next_stretch-run.result.count c.sectors-sectors.result (marks c.next_stretch-run.new.ahead.rest.now)
-    (u.ahead ∙ subst (λ (h : Bool). marks_ahead c.pieces.ahead ≡ replicate c.next_stretch-run.result.count h ++ marks c.next_stretch-run.new.ahead.rest.now) c.if-run.false first) (c.requires.fits ∙ sym u.all) u.within
-    inside u.all (subst (λ (h : Bool). BeginsOtherwise h (marks c.next_stretch-run.new.ahead.rest.now)) c.if-run.false c.next_stretch-run.ensures.longest) in
-    let under = subst (λ (t : Trimming). IsUnderway (is_some c.args.noted.now) before (scanned_by c.args.pass) old now c.pieces.at c.pieces.tally c.pieces.noted t u.so_far.calls) (u.turns c.if-turning.true) u.so_far.under in
-    err-from c.from_residual-in_err-last.result _ c.in_err-last.field-0.0 c.from_residual-in_err-last.ensures.1 (ends-probing g.D.BlockDev.state g.D.BlockDev.does (is_some c.args.noted.now) before (scanned_by c.args.pass) old now c.pieces.at end c.pieces.tally c.pieces.noted u.so_far.calls under whole whole.unread (omega arith) c.lost_end.new.stack c.in_err-last.field-0.0 u.unfailed c.in_err-last.ensures.err)
+    err-from c.from_residual-in_err-behind.result _ c.in_err-behind.field-0.0 c.from_residual-in_err-behind.ensures.1
+    (stops-early (is_some c.args.noted.now) (marks_ahead c.args.ahead) (scanned_by c.args.pass) old now c.pieces.at c.pieces.tally c.pieces.noted c.pieces.way u.so_far.calls u.so_far.under g.D.BlockDev.state g.D.BlockDev.does g.O.BlockDev.state (DeviceDoes g.O.BlockDev.state g.O.BlockDev.does) c.pieces.out c.read_behind.new.out c.read_behind.new.stack c.in_err-behind.field-0.0 refl u.unfailed c.in_err-behind.ensures.err)
 
-pub returns-in_err-last-clause-stopped : goal.returns-in_err-last-clause-stopped
-returns-in_err-last-clause-stopped g c =
+pub returns-in_err-behind-clause-stopped : goal.returns-in_err-behind-clause-stopped
+returns-in_err-behind-clause-stopped g c =
     let u = c.pieces.invariant in
-    let end : ℕ = c.pieces.at + c.next_stretch-run.result.count in
-    let is = stops-memory g.D.BlockDev.state g.D.BlockDev.does c.args.pass.device.0 c.pieces.at end c.pieces.stack c.lost_end.new.stack c.in_err-last.field-0.0 c.in_err-last.ensures.err in
-    err-from c.from_residual-in_err-last.result _ NoMemory (subst (λ (e : RecoveryFault). IsErrAnd c.from_residual-in_err-last.result (λ f. f ≡ e)) is c.from_residual-in_err-last.ensures.1)
-    (hands-part _ _ _ _ _ _ _ _ _ _ _ _ u.so_far c.args.listing.now c.pieces.listing c.lost_end.new.stack)
+    err-from c.from_residual-in_err-behind.result _ c.in_err-behind.field-0.0 c.from_residual-in_err-behind.ensures.1
+    (stops-handing (DeviceDoes g.O.BlockDev.state g.O.BlockDev.does) (is_some c.args.noted.now) (marks_ahead c.args.ahead) (scanned_by c.args.pass) _ _ c.pieces.at c.pieces.tally c.pieces.noted c.pieces.way c.args.out.now c.pieces.out u.so_far c.args.listing.now c.pieces.listing g.D.BlockDev.state g.D.BlockDev.does g.O.BlockDev.state c.read_behind.new.stack c.read_behind.new.out c.in_err-behind.field-0.0 c.in_err-behind.ensures.err)
 
-pub returns-in_err-last-clause-called : goal.returns-in_err-last-clause-called
-returns-in_err-last-clause-called g c =
+pub returns-in_err-behind-clause-called : goal.returns-in_err-behind-clause-called
+returns-in_err-behind-clause-called g c =
     let u = c.pieces.invariant in
-    let end : ℕ = c.pieces.at + c.next_stretch-run.result.count in
-    let p = err_from_is_err_and c.from_residual-in_err-last.result c.from_residual-in_err-last.ensures.1 in
-    rw p.1 (inl (c.pieces.at, copies-stopped g.D.BlockDev.state g.D.BlockDev.does (DeviceDoes g.O.BlockDev.state g.O.BlockDev.does) (marks_ahead c.args.ahead) c.args.pass.device.0 c.args.stack.now c.args.out.now c.pieces.at end c.pieces.stack c.pieces.out u.called c.lost_end.new.stack c.in_err-last.field-0.0 c.in_err-last.ensures.err))
+    let q = err_from_is_err_and c.from_residual-in_err-behind.result c.from_residual-in_err-behind.ensures.1 in
+    rw q.1 (stops-called g.D.BlockDev.state g.D.BlockDev.does (DeviceDoes g.O.BlockDev.state g.O.BlockDev.does) (marks_ahead c.args.ahead) c.args.pass.device.0 c.args.stack.now c.args.out.now c.pieces.at c.pieces.stack c.pieces.out u.copied_ahead u.called g.O.BlockDev.state c.read_behind.new.stack c.read_behind.new.out c.in_err-behind.field-0.0 c.in_err-behind.ensures.err)
+
+pub pieces-preserved-in-Copied : goal.pieces-preserved-in-Copied
+pieces-preserved-in-Copied g c =
+    let u = c.pieces.invariant in
+    let before : List Bool = marks_ahead c.args.ahead in
+    let config : Configuration = c.args.stack.now.config in
+    let p = pass_over config c.args.pass.device.0 before in
+    let here : Run = c.next_stretch-run.result in
+    let at : ℕ = c.pieces.at in
+    let first = first-run c.pieces.ahead c.next_stretch-run.new.ahead c.next_stretch-run.result c.next_stretch-run.ensures.same c.next_stretch-run.ensures.first in
+    let inside = ahead-inside (marks_ahead c.args.ahead) c.pieces.at c.sectors-sectors.result c.next_stretch-run.result.count c.next_stretch-run.result.had _ _ (c.requires.fits ∙ sym u.all) u.ahead first u.within in
+    let had : here.had ≡ false = (or-left _ _ (sym c.is_past.ensures ∙ c.if-is_past.false)) in
+    let run_end : IsUnreadTo p at (at + here.count) =
+    unread-run config c.args.pass.device.0 before at here.count c.sectors-sectors.result (marks c.next_stretch-run.new.ahead.rest.now)
+    (u.ahead ∙ subst (λ (h : Bool). marks_ahead c.pieces.ahead ≡ replicate here.count h ++ marks c.next_stretch-run.new.ahead.rest.now) had first) (c.requires.fits ∙ sym u.all) u.within
+    inside u.all (subst (λ (h : Bool). BeginsOtherwise h (marks c.next_stretch-run.new.ahead.rest.now)) had c.next_stretch-run.ensures.longest) in
+    let low : ℕ = low_of c.pieces.way (at + here.count) in
+    let low_is : c.low_of-low.result ≡ low = c.low_of-low.ensures in
+    let turned : is_forward c.pieces.way ≡ false = sym c.is_forward.ensures ∙ c.if-is_forward.false in
+    let probed : IsProbedTo p at c.pieces.way low = probed-from p at here.count c.next_stretch-run.ensures.some c.pieces.way turned run_end in
+    let after : at < low = probed-some p at here.count c.next_stretch-run.ensures.some c.pieces.way u.run (or-right _ _ (sym c.is_past.ensures ∙ c.if-is_past.false)) in
+    let below : low ≤ at + here.count = probed-within p at here.count c.next_stretch-run.ensures.some c.pieces.way u.run run_end in
+    let marked : AreMarked before at (low - at) false = λ j less. run_end.unread j (omega (arith, less, below)) in
+    let old : Sides = sides c.args.stack.now (g.O.BlockDev.state c.args.out.now) (g.L.Listing.told c.args.listing.now) in
+    let now : Sides = sides c.pieces.stack (g.O.BlockDev.state c.pieces.out) (g.L.Listing.told c.pieces.listing) in
+    let b : CopiesBehind g.D.BlockDev.state g.D.BlockDev.does g.O.BlockDev.state (DeviceDoes g.O.BlockDev.state g.O.BlockDev.does) c.args.pass.device.0 at low c.pieces.stack c.pieces.out c.read_behind.new.stack c.read_behind.new.out c.in-Copied.first =
+    subst (λ (k : ℕ). CopiesBehind g.D.BlockDev.state g.D.BlockDev.does g.O.BlockDev.state (DeviceDoes g.O.BlockDev.state g.O.BlockDev.does) c.args.pass.device.0 at k c.pieces.stack c.pieces.out c.read_behind.new.stack c.read_behind.new.out c.in-Copied.first) low_is
+    (subst (ReadsBehind g.D.BlockDev.state g.D.BlockDev.does g.O.BlockDev.state (DeviceDoes g.O.BlockDev.state g.O.BlockDev.does) c.args.pass.device.0 at c.low_of-low.result c.pieces.stack c.pieces.out c.read_behind.new.stack c.read_behind.new.out) c.in-Copied.is c.in_ok-behind.ensures.ok) in
+    let x = called-behind g.D.BlockDev.state g.D.BlockDev.does (DeviceDoes g.O.BlockDev.state g.O.BlockDev.does) before config c.args.pass.device.0 c.args.stack.now c.args.out.now at c.pieces.stack c.pieces.out c.pieces.way u.copied_ahead low g.O.BlockDev.state c.in-Copied.first c.read_behind.new.stack c.read_behind.new.out u.called u.region probed b in
+    rw (c.way_probed.ensures, low_is) (record {
+      so_far = record {
+        calls = u.so_far.calls ++ Write c.in-Copied.first b.bytes true ∷ [];
+        under = underway-behind (is_some c.args.noted.now) before (scanned_by c.args.pass) old now at c.pieces.tally c.pieces.noted c.pieces.way u.so_far.calls u.so_far.under low probed marked g.D.BlockDev.state g.D.BlockDev.does g.O.BlockDev.state (DeviceDoes g.O.BlockDev.state g.O.BlockDev.does) c.pieces.out c.read_behind.new.out c.read_behind.new.stack c.in-Copied.first refl b;
+        did = calls-last (DeviceDoes g.O.BlockDev.state g.O.BlockDev.does) c.args.out.now c.pieces.out c.read_behind.new.out u.so_far.calls (Write c.in-Copied.first b.bytes true) u.so_far.did b.did;
+      };
+      run = run-behind p at low c.pieces.way c.in-Copied.first u.run probed b.after b.some;
+      copied_ahead = x.0;
+      called = x.2;
+      region = x.1;
+      ahead = u.ahead ∙ sym c.next_stretch-run.ensures.same;
+      config = b.answered.any.config ∙ u.config;
+      within = u.within;
+      all = u.all;
+      few = u.few;
+      unfailed = b.unfailed ∙ u.unfailed;
+      noted = u.noted;
+    })
+
+pub note_end-requires-clause-some : goal.note_end-requires-clause-some
+note_end-requires-clause-some g c =
+    let b = subst (ReadsBehind g.D.BlockDev.state g.D.BlockDev.does g.O.BlockDev.state (DeviceDoes g.O.BlockDev.state g.O.BlockDev.does) c.args.pass.device.0 c.pieces.at c.low_of-low.result c.pieces.stack c.pieces.out c.read_behind.new.stack c.read_behind.new.out) c.in-Lost.is c.in_ok-behind.ensures.ok in
+    b.0.some
 
 pub note_end-requires-clause-marks : goal.note_end-requires-clause-marks
 note_end-requires-clause-marks g c =
     let u = c.pieces.invariant in
+    let before : List Bool = marks_ahead c.args.ahead in
+    let config : Configuration = c.args.stack.now.config in
+    let p = pass_over config c.args.pass.device.0 before in
+    let here : Run = c.next_stretch-run.result in
+    let at : ℕ = c.pieces.at in
     let first = first-run c.pieces.ahead c.next_stretch-run.new.ahead c.next_stretch-run.result c.next_stretch-run.ensures.same c.next_stretch-run.ensures.first in
     let inside = ahead-inside (marks_ahead c.args.ahead) c.pieces.at c.sectors-sectors.result c.next_stretch-run.result.count c.next_stretch-run.result.had _ _ (c.requires.fits ∙ sym u.all) u.ahead first u.within in
-    let end : ℕ = c.pieces.at + c.next_stretch-run.result.count in
-    let b = subst (ProbesBack g.D.BlockDev.state g.D.BlockDev.does c.args.pass.device.0 c.pieces.at end c.pieces.stack c.lost_end.new.stack) c.in-Some.is c.in_ok-last.ensures.ok in
-    let low = probed-within g.D.BlockDev.state g.D.BlockDev.does c.args.pass.device.0 c.pieces.at end c.pieces.stack b.probed in
-    let ends = b.ends.ends in
-    λ x e. note-room _ _ _ _ _ _ _ _ _ _ u.so_far.under (c.in-Some.last.before + c.in-Some.last.count) (omega (arith, inside, u.few, low, ends)) x e
+    let had : here.had ≡ false = (or-left _ _ (sym c.is_past.ensures ∙ c.if-is_past.false)) in
+    let run_end : IsUnreadTo p at (at + here.count) =
+    unread-run config c.args.pass.device.0 before at here.count c.sectors-sectors.result (marks c.next_stretch-run.new.ahead.rest.now)
+    (u.ahead ∙ subst (λ (h : Bool). marks_ahead c.pieces.ahead ≡ replicate here.count h ++ marks c.next_stretch-run.new.ahead.rest.now) had first) (c.requires.fits ∙ sym u.all) u.within
+    inside u.all (subst (λ (h : Bool). BeginsOtherwise h (marks c.next_stretch-run.new.ahead.rest.now)) had c.next_stretch-run.ensures.longest) in
+    let low : ℕ = low_of c.pieces.way (at + here.count) in
+    let low_is : c.low_of-low.result ≡ low = c.low_of-low.ensures in
+    let turned : is_forward c.pieces.way ≡ false = sym c.is_forward.ensures ∙ c.if-is_forward.false in
+    let probed : IsProbedTo p at c.pieces.way low = probed-from p at here.count c.next_stretch-run.ensures.some c.pieces.way turned run_end in
+    let after : at < low = probed-some p at here.count c.next_stretch-run.ensures.some c.pieces.way u.run (or-right _ _ (sym c.is_past.ensures ∙ c.if-is_past.false)) in
+    let below : low ≤ at + here.count = probed-within p at here.count c.next_stretch-run.ensures.some c.pieces.way u.run run_end in
+    let marked : AreMarked before at (low - at) false = λ j less. run_end.unread j (omega (arith, less, below)) in
+    let b = subst (ReadsBehind g.D.BlockDev.state g.D.BlockDev.does g.O.BlockDev.state (DeviceDoes g.O.BlockDev.state g.O.BlockDev.does) c.args.pass.device.0 at c.low_of-low.result c.pieces.stack c.pieces.out c.read_behind.new.stack c.read_behind.new.out) c.in-Lost.is c.in_ok-behind.ensures.ok in
+    let e = b.0 in
+    let ends : at + (c.in-Lost.last.before + c.in-Lost.last.count) ≡ low = e.ends ∙ low_is in
+    λ x e. note-room _ _ _ _ _ _ _ _ _ _ u.so_far.under (c.in-Lost.last.before + c.in-Lost.last.count) (omega (arith, inside, u.few, below, ends)) x e
 
 pub returns-in_err-note_end-clause-err : goal.returns-in_err-note_end-clause-err
 returns-in_err-note_end-clause-err g c =
     let u = c.pieces.invariant in
-    let first = first-run c.pieces.ahead c.next_stretch-run.new.ahead c.next_stretch-run.result c.next_stretch-run.ensures.same c.next_stretch-run.ensures.first in
-    let inside = ahead-inside (marks_ahead c.args.ahead) c.pieces.at c.sectors-sectors.result c.next_stretch-run.result.count c.next_stretch-run.result.had _ _ (c.requires.fits ∙ sym u.all) u.ahead first u.within in
     let before : List Bool = marks_ahead c.args.ahead in
     let old : Sides = sides c.args.stack.now (g.O.BlockDev.state c.args.out.now) (g.L.Listing.told c.args.listing.now) in
-    let new : Sides = sides c.lost_end.new.stack (g.O.BlockDev.state c.pieces.out) (g.L.Listing.told c.pieces.listing) in
+    let new : Sides = sides c.read_behind.new.stack (g.O.BlockDev.state c.pieces.out) (g.L.Listing.told c.pieces.listing) in
+    let b = subst (ReadsBehind g.D.BlockDev.state g.D.BlockDev.does g.O.BlockDev.state (DeviceDoes g.O.BlockDev.state g.O.BlockDev.does) c.args.pass.device.0 c.pieces.at c.low_of-low.result c.pieces.stack c.pieces.out c.read_behind.new.stack c.read_behind.new.out) c.in-Lost.is c.in_ok-behind.ensures.ok in
     err-from c.from_residual-in_err-note_end.result _ _ c.from_residual-in_err-note_end.ensures.1
-    (subst (EndsEarly (is_some c.args.noted.now) before (scanned_by c.args.pass) old new) (sym c.in_err-note_end.ensures.err.0)
-    (runs-short _ _ _ _ _ _ _ _ _ _ u.so_far.under c.lost_end.new.stack u.unfailed (inr (sym u.noted ∙ c.in_err-note_end.ensures.err.1.0, c.in_err-note_end.ensures.err.1.1))))
+    (subst (EndsEarly (is_some c.args.noted.now) before (scanned_by c.args.pass) old (sides c.read_behind.new.stack (g.O.BlockDev.state c.read_behind.new.out) (g.L.Listing.told c.pieces.listing))) (sym c.in_err-note_end.ensures.err.0)
+    (rw b.1 (runs-short _ _ _ _ _ _ _ _ _ _ u.so_far.under c.read_behind.new.stack u.unfailed (inr (sym u.noted ∙ c.in_err-note_end.ensures.err.1.0, c.in_err-note_end.ensures.err.1.1)))))
 
 pub returns-in_err-note_end-clause-stopped : goal.returns-in_err-note_end-clause-stopped
 returns-in_err-note_end-clause-stopped g c =
     let u = c.pieces.invariant in
+    let b = subst (ReadsBehind g.D.BlockDev.state g.D.BlockDev.does g.O.BlockDev.state (DeviceDoes g.O.BlockDev.state g.O.BlockDev.does) c.args.pass.device.0 c.pieces.at c.low_of-low.result c.pieces.stack c.pieces.out c.read_behind.new.stack c.read_behind.new.out) c.in-Lost.is c.in_ok-behind.ensures.ok in
     err-from c.from_residual-in_err-note_end.result _ NoMemory (subst (λ (e : RecoveryFault). IsErrAnd c.from_residual-in_err-note_end.result (λ f. f ≡ e)) c.in_err-note_end.ensures.err.0 c.from_residual-in_err-note_end.ensures.1)
-    (hands-part _ _ _ _ _ _ _ _ _ _ _ _ u.so_far c.args.listing.now c.pieces.listing c.lost_end.new.stack)
+    (rw b.1 (hands-part _ _ _ _ _ _ _ _ _ _ _ _ u.so_far c.args.listing.now c.pieces.listing c.read_behind.new.stack))
 
 pub returns-in_err-note_end-clause-called : goal.returns-in_err-note_end-clause-called
 returns-in_err-note_end-clause-called g c =
     let u = c.pieces.invariant in
-    let end : ℕ = c.pieces.at + c.next_stretch-run.result.count in
-    let b = subst (ProbesBack g.D.BlockDev.state g.D.BlockDev.does c.args.pass.device.0 c.pieces.at end c.pieces.stack c.lost_end.new.stack) c.in-Some.is c.in_ok-last.ensures.ok in
-    let p = err_from_is_err_and c.from_residual-in_err-note_end.result c.from_residual-in_err-note_end.ensures.1 in
-    rw p.1 (inl (c.pieces.at + 0, copies-trimmed g.D.BlockDev.state g.D.BlockDev.does (DeviceDoes g.O.BlockDev.state g.O.BlockDev.does) (marks_ahead c.args.ahead) c.args.pass.device.0 c.args.stack.now c.args.out.now c.pieces.at end c.pieces.stack c.pieces.out u.called c.lost_end.new.stack c.in-Some.last 0 b.probed b.ends))
+    let b = subst (ReadsBehind g.D.BlockDev.state g.D.BlockDev.does g.O.BlockDev.state (DeviceDoes g.O.BlockDev.state g.O.BlockDev.does) c.args.pass.device.0 c.pieces.at c.low_of-low.result c.pieces.stack c.pieces.out c.read_behind.new.stack c.read_behind.new.out) c.in-Lost.is c.in_ok-behind.ensures.ok in
+    let q = err_from_is_err_and c.from_residual-in_err-note_end.result c.from_residual-in_err-note_end.ensures.1 in
+    rw (q.1, b.1) (inl (c.pieces.at + 0, u.copied_ahead, called-trimmed g.D.BlockDev.state g.D.BlockDev.does (DeviceDoes g.O.BlockDev.state g.O.BlockDev.does) (marks_ahead c.args.ahead) c.args.stack.now.config c.args.pass.device.0 c.args.stack.now c.args.out.now c.pieces.at c.pieces.stack c.pieces.out u.copied_ahead c.low_of-low.result 0 c.read_behind.new.stack c.in-Lost.last u.called b.0))
 
 pub tell_end-requires-clause-few : goal.tell_end-requires-clause-few
 tell_end-requires-clause-few g c =
@@ -495,131 +593,184 @@ tell_end-requires-clause-few g c =
 pub tell_end-requires-clause-room : goal.tell_end-requires-clause-room
 tell_end-requires-clause-room g c =
     let u = c.pieces.invariant in
+    let before : List Bool = marks_ahead c.args.ahead in
+    let config : Configuration = c.args.stack.now.config in
+    let p = pass_over config c.args.pass.device.0 before in
+    let here : Run = c.next_stretch-run.result in
+    let at : ℕ = c.pieces.at in
     let first = first-run c.pieces.ahead c.next_stretch-run.new.ahead c.next_stretch-run.result c.next_stretch-run.ensures.same c.next_stretch-run.ensures.first in
     let inside = ahead-inside (marks_ahead c.args.ahead) c.pieces.at c.sectors-sectors.result c.next_stretch-run.result.count c.next_stretch-run.result.had _ _ (c.requires.fits ∙ sym u.all) u.ahead first u.within in
-    let end : ℕ = c.pieces.at + c.next_stretch-run.result.count in
-    let b = subst (ProbesBack g.D.BlockDev.state g.D.BlockDev.does c.args.pass.device.0 c.pieces.at end c.pieces.stack c.lost_end.new.stack) c.in-Some.is c.in_ok-last.ensures.ok in
-    let low = probed-within g.D.BlockDev.state g.D.BlockDev.does c.args.pass.device.0 c.pieces.at end c.pieces.stack b.probed in
-    let ends = b.ends.ends in
-    omega (arith, inside, u.few, low, ends)
+    let had : here.had ≡ false = (or-left _ _ (sym c.is_past.ensures ∙ c.if-is_past.false)) in
+    let run_end : IsUnreadTo p at (at + here.count) =
+    unread-run config c.args.pass.device.0 before at here.count c.sectors-sectors.result (marks c.next_stretch-run.new.ahead.rest.now)
+    (u.ahead ∙ subst (λ (h : Bool). marks_ahead c.pieces.ahead ≡ replicate here.count h ++ marks c.next_stretch-run.new.ahead.rest.now) had first) (c.requires.fits ∙ sym u.all) u.within
+    inside u.all (subst (λ (h : Bool). BeginsOtherwise h (marks c.next_stretch-run.new.ahead.rest.now)) had c.next_stretch-run.ensures.longest) in
+    let low : ℕ = low_of c.pieces.way (at + here.count) in
+    let low_is : c.low_of-low.result ≡ low = c.low_of-low.ensures in
+    let turned : is_forward c.pieces.way ≡ false = sym c.is_forward.ensures ∙ c.if-is_forward.false in
+    let probed : IsProbedTo p at c.pieces.way low = probed-from p at here.count c.next_stretch-run.ensures.some c.pieces.way turned run_end in
+    let after : at < low = probed-some p at here.count c.next_stretch-run.ensures.some c.pieces.way u.run (or-right _ _ (sym c.is_past.ensures ∙ c.if-is_past.false)) in
+    let below : low ≤ at + here.count = probed-within p at here.count c.next_stretch-run.ensures.some c.pieces.way u.run run_end in
+    let marked : AreMarked before at (low - at) false = λ j less. run_end.unread j (omega (arith, less, below)) in
+    let b = subst (ReadsBehind g.D.BlockDev.state g.D.BlockDev.does g.O.BlockDev.state (DeviceDoes g.O.BlockDev.state g.O.BlockDev.does) c.args.pass.device.0 at c.low_of-low.result c.pieces.stack c.pieces.out c.read_behind.new.stack c.read_behind.new.out) c.in-Lost.is c.in_ok-behind.ensures.ok in
+    let e = b.0 in
+    let ends : at + (c.in-Lost.last.before + c.in-Lost.last.count) ≡ low = e.ends ∙ low_is in
+    omega (arith, inside, u.few, below, ends)
 
 pub overflow_add-last : goal.overflow_add-last
 overflow_add-last g c =
     let u = c.pieces.invariant in
-    let first = first-run c.pieces.ahead c.next_stretch-run.new.ahead c.next_stretch-run.result c.next_stretch-run.ensures.same c.next_stretch-run.ensures.first in
-    let inside = ahead-inside (marks_ahead c.args.ahead) c.pieces.at c.sectors-sectors.result c.next_stretch-run.result.count c.next_stretch-run.result.had _ _ (c.requires.fits ∙ sym u.all) u.ahead first u.within in
-    let end : ℕ = c.pieces.at + c.next_stretch-run.result.count in
-    let b = subst (ProbesBack g.D.BlockDev.state g.D.BlockDev.does c.args.pass.device.0 c.pieces.at end c.pieces.stack c.lost_end.new.stack) c.in-Some.is c.in_ok-last.ensures.ok in
-    let low = probed-within g.D.BlockDev.state g.D.BlockDev.does c.args.pass.device.0 c.pieces.at end c.pieces.stack b.probed in
-    let ends = b.ends.ends in
-    omega (arith, inside, u.few, low, ends)
-
-pub overflow_add-at-in-Some : goal.overflow_add-at-in-Some
-overflow_add-at-in-Some g c =
-    let u = c.pieces.invariant in
-    let first = first-run c.pieces.ahead c.next_stretch-run.new.ahead c.next_stretch-run.result c.next_stretch-run.ensures.same c.next_stretch-run.ensures.first in
-    let inside = ahead-inside (marks_ahead c.args.ahead) c.pieces.at c.sectors-sectors.result c.next_stretch-run.result.count c.next_stretch-run.result.had _ _ (c.requires.fits ∙ sym u.all) u.ahead first u.within in
-    let end : ℕ = c.pieces.at + c.next_stretch-run.result.count in
-    let b = subst (ProbesBack g.D.BlockDev.state g.D.BlockDev.does c.args.pass.device.0 c.pieces.at end c.pieces.stack c.lost_end.new.stack) c.in-Some.is c.in_ok-last.ensures.ok in
-    let low = probed-within g.D.BlockDev.state g.D.BlockDev.does c.args.pass.device.0 c.pieces.at end c.pieces.stack b.probed in
-    let ends = b.ends.ends in
-    omega (arith, inside, u.few, low, ends)
-
-pub overflow_add-at-in-Some-2 : goal.overflow_add-at-in-Some-2
-overflow_add-at-in-Some-2 g c =
-    let u = c.pieces.invariant in
-    let first = first-run c.pieces.ahead c.next_stretch-run.new.ahead c.next_stretch-run.result c.next_stretch-run.ensures.same c.next_stretch-run.ensures.first in
-    let inside = ahead-inside (marks_ahead c.args.ahead) c.pieces.at c.sectors-sectors.result c.next_stretch-run.result.count c.next_stretch-run.result.had _ _ (c.requires.fits ∙ sym u.all) u.ahead first u.within in
-    let end : ℕ = c.pieces.at + c.next_stretch-run.result.count in
-    let b = subst (ProbesBack g.D.BlockDev.state g.D.BlockDev.does c.args.pass.device.0 c.pieces.at end c.pieces.stack c.lost_end.new.stack) c.in-Some.is c.in_ok-last.ensures.ok in
-    let low = probed-within g.D.BlockDev.state g.D.BlockDev.does c.args.pass.device.0 c.pieces.at end c.pieces.stack b.probed in
-    let ends = b.ends.ends in
-    omega (arith, inside, u.few, low, ends)
-
-pub pass-requires-in-Some : goal.pass-requires-in-Some
-pass-requires-in-Some g c =
-    let u = c.pieces.invariant in
-    let first = first-run c.pieces.ahead c.next_stretch-run.new.ahead c.next_stretch-run.result c.next_stretch-run.ensures.same c.next_stretch-run.ensures.first in
-    let inside = ahead-inside (marks_ahead c.args.ahead) c.pieces.at c.sectors-sectors.result c.next_stretch-run.result.count c.next_stretch-run.result.had _ _ (c.requires.fits ∙ sym u.all) u.ahead first u.within in
-    let end : ℕ = c.pieces.at + c.next_stretch-run.result.count in
-    let b = subst (ProbesBack g.D.BlockDev.state g.D.BlockDev.does c.args.pass.device.0 c.pieces.at end c.pieces.stack c.lost_end.new.stack) c.in-Some.is c.in_ok-last.ensures.ok in
-    let low = probed-within g.D.BlockDev.state g.D.BlockDev.does c.args.pass.device.0 c.pieces.at end c.pieces.stack b.probed in
-    let ends = b.ends.ends in
-    subst (λ (r : Run). (c.in-Some.last.before + c.in-Some.last.count) ≤ r.count) c.next_stretch-run.ensures.first (omega (arith, low, ends))
-
-pub pieces-preserved-in-Some : goal.pieces-preserved-in-Some
-pieces-preserved-in-Some g c =
-    let u = c.pieces.invariant in
-    let first = first-run c.pieces.ahead c.next_stretch-run.new.ahead c.next_stretch-run.result c.next_stretch-run.ensures.same c.next_stretch-run.ensures.first in
-    let inside = ahead-inside (marks_ahead c.args.ahead) c.pieces.at c.sectors-sectors.result c.next_stretch-run.result.count c.next_stretch-run.result.had _ _ (c.requires.fits ∙ sym u.all) u.ahead first u.within in
-    let end : ℕ = c.pieces.at + c.next_stretch-run.result.count in
-    let b = subst (ProbesBack g.D.BlockDev.state g.D.BlockDev.does c.args.pass.device.0 c.pieces.at end c.pieces.stack c.lost_end.new.stack) c.in-Some.is c.in_ok-last.ensures.ok in
-    let low = probed-within g.D.BlockDev.state g.D.BlockDev.does c.args.pass.device.0 c.pieces.at end c.pieces.stack b.probed in
-    let ends = b.ends.ends in
     let before : List Bool = marks_ahead c.args.ahead in
+    let config : Configuration = c.args.stack.now.config in
+    let p = pass_over config c.args.pass.device.0 before in
+    let here : Run = c.next_stretch-run.result in
+    let at : ℕ = c.pieces.at in
+    let first = first-run c.pieces.ahead c.next_stretch-run.new.ahead c.next_stretch-run.result c.next_stretch-run.ensures.same c.next_stretch-run.ensures.first in
+    let inside = ahead-inside (marks_ahead c.args.ahead) c.pieces.at c.sectors-sectors.result c.next_stretch-run.result.count c.next_stretch-run.result.had _ _ (c.requires.fits ∙ sym u.all) u.ahead first u.within in
+    let had : here.had ≡ false = (or-left _ _ (sym c.is_past.ensures ∙ c.if-is_past.false)) in
+    let run_end : IsUnreadTo p at (at + here.count) =
+    unread-run config c.args.pass.device.0 before at here.count c.sectors-sectors.result (marks c.next_stretch-run.new.ahead.rest.now)
+    (u.ahead ∙ subst (λ (h : Bool). marks_ahead c.pieces.ahead ≡ replicate here.count h ++ marks c.next_stretch-run.new.ahead.rest.now) had first) (c.requires.fits ∙ sym u.all) u.within
+    inside u.all (subst (λ (h : Bool). BeginsOtherwise h (marks c.next_stretch-run.new.ahead.rest.now)) had c.next_stretch-run.ensures.longest) in
+    let low : ℕ = low_of c.pieces.way (at + here.count) in
+    let low_is : c.low_of-low.result ≡ low = c.low_of-low.ensures in
+    let turned : is_forward c.pieces.way ≡ false = sym c.is_forward.ensures ∙ c.if-is_forward.false in
+    let probed : IsProbedTo p at c.pieces.way low = probed-from p at here.count c.next_stretch-run.ensures.some c.pieces.way turned run_end in
+    let after : at < low = probed-some p at here.count c.next_stretch-run.ensures.some c.pieces.way u.run (or-right _ _ (sym c.is_past.ensures ∙ c.if-is_past.false)) in
+    let below : low ≤ at + here.count = probed-within p at here.count c.next_stretch-run.ensures.some c.pieces.way u.run run_end in
+    let marked : AreMarked before at (low - at) false = λ j less. run_end.unread j (omega (arith, less, below)) in
+    let b = subst (ReadsBehind g.D.BlockDev.state g.D.BlockDev.does g.O.BlockDev.state (DeviceDoes g.O.BlockDev.state g.O.BlockDev.does) c.args.pass.device.0 at c.low_of-low.result c.pieces.stack c.pieces.out c.read_behind.new.stack c.read_behind.new.out) c.in-Lost.is c.in_ok-behind.ensures.ok in
+    let e = b.0 in
+    let ends : at + (c.in-Lost.last.before + c.in-Lost.last.count) ≡ low = e.ends ∙ low_is in
+    omega (arith, inside, u.few, below, ends)
+
+pub overflow_add-at-in-Lost : goal.overflow_add-at-in-Lost
+overflow_add-at-in-Lost g c =
+    let u = c.pieces.invariant in
+    let before : List Bool = marks_ahead c.args.ahead in
+    let config : Configuration = c.args.stack.now.config in
+    let p = pass_over config c.args.pass.device.0 before in
+    let here : Run = c.next_stretch-run.result in
+    let at : ℕ = c.pieces.at in
+    let first = first-run c.pieces.ahead c.next_stretch-run.new.ahead c.next_stretch-run.result c.next_stretch-run.ensures.same c.next_stretch-run.ensures.first in
+    let inside = ahead-inside (marks_ahead c.args.ahead) c.pieces.at c.sectors-sectors.result c.next_stretch-run.result.count c.next_stretch-run.result.had _ _ (c.requires.fits ∙ sym u.all) u.ahead first u.within in
+    let had : here.had ≡ false = (or-left _ _ (sym c.is_past.ensures ∙ c.if-is_past.false)) in
+    let run_end : IsUnreadTo p at (at + here.count) =
+    unread-run config c.args.pass.device.0 before at here.count c.sectors-sectors.result (marks c.next_stretch-run.new.ahead.rest.now)
+    (u.ahead ∙ subst (λ (h : Bool). marks_ahead c.pieces.ahead ≡ replicate here.count h ++ marks c.next_stretch-run.new.ahead.rest.now) had first) (c.requires.fits ∙ sym u.all) u.within
+    inside u.all (subst (λ (h : Bool). BeginsOtherwise h (marks c.next_stretch-run.new.ahead.rest.now)) had c.next_stretch-run.ensures.longest) in
+    let low : ℕ = low_of c.pieces.way (at + here.count) in
+    let low_is : c.low_of-low.result ≡ low = c.low_of-low.ensures in
+    let turned : is_forward c.pieces.way ≡ false = sym c.is_forward.ensures ∙ c.if-is_forward.false in
+    let probed : IsProbedTo p at c.pieces.way low = probed-from p at here.count c.next_stretch-run.ensures.some c.pieces.way turned run_end in
+    let after : at < low = probed-some p at here.count c.next_stretch-run.ensures.some c.pieces.way u.run (or-right _ _ (sym c.is_past.ensures ∙ c.if-is_past.false)) in
+    let below : low ≤ at + here.count = probed-within p at here.count c.next_stretch-run.ensures.some c.pieces.way u.run run_end in
+    let marked : AreMarked before at (low - at) false = λ j less. run_end.unread j (omega (arith, less, below)) in
+    let b = subst (ReadsBehind g.D.BlockDev.state g.D.BlockDev.does g.O.BlockDev.state (DeviceDoes g.O.BlockDev.state g.O.BlockDev.does) c.args.pass.device.0 at c.low_of-low.result c.pieces.stack c.pieces.out c.read_behind.new.stack c.read_behind.new.out) c.in-Lost.is c.in_ok-behind.ensures.ok in
+    let e = b.0 in
+    let ends : at + (c.in-Lost.last.before + c.in-Lost.last.count) ≡ low = e.ends ∙ low_is in
+    omega (arith, inside, u.few, below, ends)
+
+pub overflow_add-at-in-Lost-2 : goal.overflow_add-at-in-Lost-2
+overflow_add-at-in-Lost-2 g c =
+    let u = c.pieces.invariant in
+    let before : List Bool = marks_ahead c.args.ahead in
+    let config : Configuration = c.args.stack.now.config in
+    let p = pass_over config c.args.pass.device.0 before in
+    let here : Run = c.next_stretch-run.result in
+    let at : ℕ = c.pieces.at in
+    let first = first-run c.pieces.ahead c.next_stretch-run.new.ahead c.next_stretch-run.result c.next_stretch-run.ensures.same c.next_stretch-run.ensures.first in
+    let inside = ahead-inside (marks_ahead c.args.ahead) c.pieces.at c.sectors-sectors.result c.next_stretch-run.result.count c.next_stretch-run.result.had _ _ (c.requires.fits ∙ sym u.all) u.ahead first u.within in
+    let had : here.had ≡ false = (or-left _ _ (sym c.is_past.ensures ∙ c.if-is_past.false)) in
+    let run_end : IsUnreadTo p at (at + here.count) =
+    unread-run config c.args.pass.device.0 before at here.count c.sectors-sectors.result (marks c.next_stretch-run.new.ahead.rest.now)
+    (u.ahead ∙ subst (λ (h : Bool). marks_ahead c.pieces.ahead ≡ replicate here.count h ++ marks c.next_stretch-run.new.ahead.rest.now) had first) (c.requires.fits ∙ sym u.all) u.within
+    inside u.all (subst (λ (h : Bool). BeginsOtherwise h (marks c.next_stretch-run.new.ahead.rest.now)) had c.next_stretch-run.ensures.longest) in
+    let low : ℕ = low_of c.pieces.way (at + here.count) in
+    let low_is : c.low_of-low.result ≡ low = c.low_of-low.ensures in
+    let turned : is_forward c.pieces.way ≡ false = sym c.is_forward.ensures ∙ c.if-is_forward.false in
+    let probed : IsProbedTo p at c.pieces.way low = probed-from p at here.count c.next_stretch-run.ensures.some c.pieces.way turned run_end in
+    let after : at < low = probed-some p at here.count c.next_stretch-run.ensures.some c.pieces.way u.run (or-right _ _ (sym c.is_past.ensures ∙ c.if-is_past.false)) in
+    let below : low ≤ at + here.count = probed-within p at here.count c.next_stretch-run.ensures.some c.pieces.way u.run run_end in
+    let marked : AreMarked before at (low - at) false = λ j less. run_end.unread j (omega (arith, less, below)) in
+    let b = subst (ReadsBehind g.D.BlockDev.state g.D.BlockDev.does g.O.BlockDev.state (DeviceDoes g.O.BlockDev.state g.O.BlockDev.does) c.args.pass.device.0 at c.low_of-low.result c.pieces.stack c.pieces.out c.read_behind.new.stack c.read_behind.new.out) c.in-Lost.is c.in_ok-behind.ensures.ok in
+    let e = b.0 in
+    let ends : at + (c.in-Lost.last.before + c.in-Lost.last.count) ≡ low = e.ends ∙ low_is in
+    omega (arith, inside, u.few, below, ends)
+
+pub pass-requires-in-Lost : goal.pass-requires-in-Lost
+pass-requires-in-Lost g c =
+    let u = c.pieces.invariant in
+    let before : List Bool = marks_ahead c.args.ahead in
+    let config : Configuration = c.args.stack.now.config in
+    let p = pass_over config c.args.pass.device.0 before in
+    let here : Run = c.next_stretch-run.result in
+    let at : ℕ = c.pieces.at in
+    let first = first-run c.pieces.ahead c.next_stretch-run.new.ahead c.next_stretch-run.result c.next_stretch-run.ensures.same c.next_stretch-run.ensures.first in
+    let inside = ahead-inside (marks_ahead c.args.ahead) c.pieces.at c.sectors-sectors.result c.next_stretch-run.result.count c.next_stretch-run.result.had _ _ (c.requires.fits ∙ sym u.all) u.ahead first u.within in
+    let had : here.had ≡ false = (or-left _ _ (sym c.is_past.ensures ∙ c.if-is_past.false)) in
+    let run_end : IsUnreadTo p at (at + here.count) =
+    unread-run config c.args.pass.device.0 before at here.count c.sectors-sectors.result (marks c.next_stretch-run.new.ahead.rest.now)
+    (u.ahead ∙ subst (λ (h : Bool). marks_ahead c.pieces.ahead ≡ replicate here.count h ++ marks c.next_stretch-run.new.ahead.rest.now) had first) (c.requires.fits ∙ sym u.all) u.within
+    inside u.all (subst (λ (h : Bool). BeginsOtherwise h (marks c.next_stretch-run.new.ahead.rest.now)) had c.next_stretch-run.ensures.longest) in
+    let low : ℕ = low_of c.pieces.way (at + here.count) in
+    let low_is : c.low_of-low.result ≡ low = c.low_of-low.ensures in
+    let turned : is_forward c.pieces.way ≡ false = sym c.is_forward.ensures ∙ c.if-is_forward.false in
+    let probed : IsProbedTo p at c.pieces.way low = probed-from p at here.count c.next_stretch-run.ensures.some c.pieces.way turned run_end in
+    let after : at < low = probed-some p at here.count c.next_stretch-run.ensures.some c.pieces.way u.run (or-right _ _ (sym c.is_past.ensures ∙ c.if-is_past.false)) in
+    let below : low ≤ at + here.count = probed-within p at here.count c.next_stretch-run.ensures.some c.pieces.way u.run run_end in
+    let marked : AreMarked before at (low - at) false = λ j less. run_end.unread j (omega (arith, less, below)) in
+    let b = subst (ReadsBehind g.D.BlockDev.state g.D.BlockDev.does g.O.BlockDev.state (DeviceDoes g.O.BlockDev.state g.O.BlockDev.does) c.args.pass.device.0 at c.low_of-low.result c.pieces.stack c.pieces.out c.read_behind.new.stack c.read_behind.new.out) c.in-Lost.is c.in_ok-behind.ensures.ok in
+    let e = b.0 in
+    let ends : at + (c.in-Lost.last.before + c.in-Lost.last.count) ≡ low = e.ends ∙ low_is in
+    subst (λ (r : Run). (c.in-Lost.last.before + c.in-Lost.last.count) ≤ r.count) c.next_stretch-run.ensures.first (omega (arith, below, ends))
+
+pub pieces-preserved-in-Lost : goal.pieces-preserved-in-Lost
+pieces-preserved-in-Lost g c =
+    let u = c.pieces.invariant in
+    let before : List Bool = marks_ahead c.args.ahead in
+    let config : Configuration = c.args.stack.now.config in
+    let p = pass_over config c.args.pass.device.0 before in
+    let here : Run = c.next_stretch-run.result in
+    let at : ℕ = c.pieces.at in
+    let first = first-run c.pieces.ahead c.next_stretch-run.new.ahead c.next_stretch-run.result c.next_stretch-run.ensures.same c.next_stretch-run.ensures.first in
+    let inside = ahead-inside (marks_ahead c.args.ahead) c.pieces.at c.sectors-sectors.result c.next_stretch-run.result.count c.next_stretch-run.result.had _ _ (c.requires.fits ∙ sym u.all) u.ahead first u.within in
+    let had : here.had ≡ false = (or-left _ _ (sym c.is_past.ensures ∙ c.if-is_past.false)) in
+    let run_end : IsUnreadTo p at (at + here.count) =
+    unread-run config c.args.pass.device.0 before at here.count c.sectors-sectors.result (marks c.next_stretch-run.new.ahead.rest.now)
+    (u.ahead ∙ subst (λ (h : Bool). marks_ahead c.pieces.ahead ≡ replicate here.count h ++ marks c.next_stretch-run.new.ahead.rest.now) had first) (c.requires.fits ∙ sym u.all) u.within
+    inside u.all (subst (λ (h : Bool). BeginsOtherwise h (marks c.next_stretch-run.new.ahead.rest.now)) had c.next_stretch-run.ensures.longest) in
+    let low : ℕ = low_of c.pieces.way (at + here.count) in
+    let low_is : c.low_of-low.result ≡ low = c.low_of-low.ensures in
+    let turned : is_forward c.pieces.way ≡ false = sym c.is_forward.ensures ∙ c.if-is_forward.false in
+    let probed : IsProbedTo p at c.pieces.way low = probed-from p at here.count c.next_stretch-run.ensures.some c.pieces.way turned run_end in
+    let after : at < low = probed-some p at here.count c.next_stretch-run.ensures.some c.pieces.way u.run (or-right _ _ (sym c.is_past.ensures ∙ c.if-is_past.false)) in
+    let below : low ≤ at + here.count = probed-within p at here.count c.next_stretch-run.ensures.some c.pieces.way u.run run_end in
+    let marked : AreMarked before at (low - at) false = λ j less. run_end.unread j (omega (arith, less, below)) in
     let old : Sides = sides c.args.stack.now (g.O.BlockDev.state c.args.out.now) (g.L.Listing.told c.args.listing.now) in
     let now : Sides = sides c.pieces.stack (g.O.BlockDev.state c.pieces.out) (g.L.Listing.told c.pieces.listing) in
-    let whole : IsUnreadTo (pass_over c.args.stack.now.config c.args.pass.device.0 before) c.pieces.at end =
-    unread-run c.args.stack.now.config c.args.pass.device.0 before c.pieces.at c.next_stretch-run.result.count c.sectors-sectors.result (marks c.next_stretch-run.new.ahead.rest.now)
-    (u.ahead ∙ subst (λ (h : Bool). marks_ahead c.pieces.ahead ≡ replicate c.next_stretch-run.result.count h ++ marks c.next_stretch-run.new.ahead.rest.now) c.if-run.false first) (c.requires.fits ∙ sym u.all) u.within
-    inside u.all (subst (λ (h : Bool). BeginsOtherwise h (marks c.next_stretch-run.new.ahead.rest.now)) c.if-run.false c.next_stretch-run.ensures.longest) in
-    let under = subst (λ (t : Trimming). IsUnderway (is_some c.args.noted.now) before (scanned_by c.args.pass) old now c.pieces.at c.pieces.tally c.pieces.noted t u.so_far.calls) (u.turns c.if-turning.true) u.so_far.under in
-    let count : ℕ = (c.in-Some.last.before + c.in-Some.last.count) in
-    let e = b.ends in
-    let q = probing g.D.BlockDev.state g.D.BlockDev.does (is_some c.args.noted.now) before (scanned_by c.args.pass) old now c.pieces.at end c.pieces.tally c.pieces.noted u.so_far.calls under whole whole.unread (omega arith) b.probed in
-    let marked : AreMarked before c.pieces.at count false = λ j less. whole.unread j (omega (arith, less, ends, low)) in
-    record {
-      t = forward;
-      turns = λ is. absurd (false≢true is);
-      reads_on = λ is. tt;
+    let b = subst (ReadsBehind g.D.BlockDev.state g.D.BlockDev.does g.O.BlockDev.state (DeviceDoes g.O.BlockDev.state g.O.BlockDev.does) c.args.pass.device.0 at c.low_of-low.result c.pieces.stack c.pieces.out c.read_behind.new.stack c.read_behind.new.out) c.in-Lost.is c.in_ok-behind.ensures.ok in
+    let e = b.0 in
+    let ends : at + (c.in-Lost.last.before + c.in-Lost.last.count) ≡ low = e.ends ∙ low_is in
+    let count : ℕ = c.in-Lost.last.before + c.in-Lost.last.count in
+    let skipped : AreMarked before at count false = λ j less. run_end.unread j (omega (arith, less, ends, below)) in
+    rw (c.way_trimmed.ensures, b.1) (record {
       so_far = record {
         calls = u.so_far.calls;
-        under = subst (λ (l : Tally). IsUnderway (is_some c.args.noted.now) before (scanned_by c.args.pass) old (sides c.lost_end.new.stack (g.O.BlockDev.state c.pieces.out) (g.L.Listing.told c.tell_end.new.listing)) (c.pieces.at + count) l c.note_end.new.noted forward u.so_far.calls) (sym c.tell_end.ensures.tallied)
-            (underway-trimmed _ _ _ _ _ _ _ _ _ _ q.under c.in-Some.last c.lost_end.new.stack (g.L.Listing.told c.tell_end.new.listing) c.note_end.new.noted
-            (subst (λ (k : ℕ). IsProbedTo (pass_over c.args.stack.now.config c.args.pass.device.0 before) c.pieces.at q.t k) (sym ends) q.ends) e.some e.answered e.may marked c.in_ok-note_end.ensures.ok c.tell_end.ensures.told);
+        under = subst (λ (l : Tally). IsUnderway (is_some c.args.noted.now) before (scanned_by c.args.pass) old (sides c.read_behind.new.stack (g.O.BlockDev.state c.pieces.out) (g.L.Listing.told c.tell_end.new.listing)) (at + count) l c.note_end.new.noted (way_trimmed c.pieces.way) u.so_far.calls) (sym c.tell_end.ensures.tallied)
+            (underway-trimmed (is_some c.args.noted.now) before (scanned_by c.args.pass) old now at c.pieces.tally c.pieces.noted c.pieces.way u.so_far.calls u.so_far.under c.in-Lost.last c.read_behind.new.stack (g.L.Listing.told c.tell_end.new.listing) c.note_end.new.noted
+            (subst (λ (k : ℕ). IsProbedTo p at c.pieces.way k) (sym ends) probed) e.some e.answered e.may skipped c.in_ok-note_end.ensures.ok c.tell_end.ensures.told);
         did = u.so_far.did;
       };
-      called = copies-trimmed g.D.BlockDev.state g.D.BlockDev.does (DeviceDoes g.O.BlockDev.state g.O.BlockDev.does) (marks_ahead c.args.ahead) c.args.pass.device.0 c.args.stack.now c.args.out.now c.pieces.at end c.pieces.stack c.pieces.out u.called c.lost_end.new.stack c.in-Some.last count b.probed e;
-      ahead = ahead-next before c.pieces.at count _ _ _ (u.ahead ∙ sym c.next_stretch-run.ensures.same) c.pass-in-Some.ensures.marks;
-      config = e.answered.any.config ∙ probed-config g.D.BlockDev.state g.D.BlockDev.does c.args.pass.device.0 c.pieces.at end c.pieces.stack b.probed ∙ u.config;
-      within = omega (arith, inside, ends, low);
+      run = subst (λ (k : ℕ). IsWayRun p k (way_trimmed c.pieces.way)) (sym ends) (run-trimmed p at low c.pieces.way u.run probed (omega (arith, after)));
+      copied_ahead = u.copied_ahead;
+      called = called-trimmed g.D.BlockDev.state g.D.BlockDev.does (DeviceDoes g.O.BlockDev.state g.O.BlockDev.does) before config c.args.pass.device.0 c.args.stack.now c.args.out.now at c.pieces.stack c.pieces.out u.copied_ahead c.low_of-low.result count c.read_behind.new.stack c.in-Lost.last u.called e;
+      region = region-trimmed p at low c.pieces.way u.copied_ahead u.region;
+      ahead = ahead-next before at count _ _ _ (u.ahead ∙ sym c.next_stretch-run.ensures.same) c.pass-in-Lost.ensures.marks;
+      config = e.answered.any.config ∙ u.config;
+      within = omega (arith, inside, ends, below);
       all = u.all;
       few = u.few;
       unfailed = u.unfailed;
       noted = notes-some marks c.pieces.noted c.note_end.new.noted _ c.in_ok-note_end.ensures.ok.0 ∙ u.noted;
-    }
-
-pub pieces-preserved-in_default : goal.pieces-preserved-in_default
-pieces-preserved-in_default g c =
-    let u = c.pieces.invariant in
-    let first = first-run c.pieces.ahead c.next_stretch-run.new.ahead c.next_stretch-run.result c.next_stretch-run.ensures.same c.next_stretch-run.ensures.first in
-    let inside = ahead-inside (marks_ahead c.args.ahead) c.pieces.at c.sectors-sectors.result c.next_stretch-run.result.count c.next_stretch-run.result.had _ _ (c.requires.fits ∙ sym u.all) u.ahead first u.within in
-    let end : ℕ = c.pieces.at + c.next_stretch-run.result.count in
-    let before : List Bool = marks_ahead c.args.ahead in
-    let old : Sides = sides c.args.stack.now (g.O.BlockDev.state c.args.out.now) (g.L.Listing.told c.args.listing.now) in
-    let now : Sides = sides c.pieces.stack (g.O.BlockDev.state c.pieces.out) (g.L.Listing.told c.pieces.listing) in
-    let whole : IsUnreadTo (pass_over c.args.stack.now.config c.args.pass.device.0 before) c.pieces.at end =
-    unread-run c.args.stack.now.config c.args.pass.device.0 before c.pieces.at c.next_stretch-run.result.count c.sectors-sectors.result (marks c.next_stretch-run.new.ahead.rest.now)
-    (u.ahead ∙ subst (λ (h : Bool). marks_ahead c.pieces.ahead ≡ replicate c.next_stretch-run.result.count h ++ marks c.next_stretch-run.new.ahead.rest.now) c.if-run.false first) (c.requires.fits ∙ sym u.all) u.within
-    inside u.all (subst (λ (h : Bool). BeginsOtherwise h (marks c.next_stretch-run.new.ahead.rest.now)) c.if-run.false c.next_stretch-run.ensures.longest) in
-    let under = subst (λ (t : Trimming). IsUnderway (is_some c.args.noted.now) before (scanned_by c.args.pass) old now c.pieces.at c.pieces.tally c.pieces.noted t u.so_far.calls) (u.turns c.if-turning.true) u.so_far.under in
-    let p = subst (ProbesBack g.D.BlockDev.state g.D.BlockDev.does c.args.pass.device.0 c.pieces.at end c.pieces.stack c.lost_end.new.stack) c.in_default.is c.in_ok-last.ensures.ok in
-    let q = probing g.D.BlockDev.state g.D.BlockDev.does (is_some c.args.noted.now) before (scanned_by c.args.pass) old now c.pieces.at end c.pieces.tally c.pieces.noted u.so_far.calls under whole whole.unread (omega arith) p.probed in
-    record {
-      t = q.t;
-      turns = λ is. absurd (false≢true is);
-      reads_on = λ is. q.reads_on p.ends.0 (omega (arith, c.next_stretch-run.ensures.some));
-      so_far = record {
-        calls = u.so_far.calls;
-        under = subst (λ (s : StackRecord). IsUnderway (is_some c.args.noted.now) before (scanned_by c.args.pass) old (sides s (g.O.BlockDev.state c.pieces.out) (g.L.Listing.told c.pieces.listing)) c.pieces.at c.pieces.tally c.pieces.noted q.t u.so_far.calls) (sym p.ends.1) q.under;
-        did = u.so_far.did;
-      };
-      called = subst (λ (s : StackRecord). CopiesLeaves g.D.BlockDev.state g.D.BlockDev.does (DeviceDoes g.O.BlockDev.state g.O.BlockDev.does) before c.args.pass.device.0 c.args.stack.now c.args.out.now c.pieces.at s c.pieces.out) (sym p.ends.1) (copies-probed g.D.BlockDev.state g.D.BlockDev.does (DeviceDoes g.O.BlockDev.state g.O.BlockDev.does) (marks_ahead c.args.ahead) c.args.pass.device.0 c.args.stack.now c.args.out.now c.pieces.at end c.pieces.stack c.pieces.out u.called p.probed);
-      ahead = u.ahead ∙ sym c.next_stretch-run.ensures.same;
-      config = ap (λ (s : StackRecord). s.config) p.ends.1 ∙ probed-config g.D.BlockDev.state g.D.BlockDev.does c.args.pass.device.0 c.pieces.at end c.pieces.stack p.probed ∙ u.config;
-      within = u.within;
-      all = u.all;
-      few = u.few;
-      unfailed = u.unfailed;
-      noted = u.noted;
-    }
+    })
