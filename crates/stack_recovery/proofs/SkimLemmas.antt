@@ -14,6 +14,7 @@ use Rattle.rescue_map.specs.Maps.{losts, marks}
 use Rattle.stack_recovery.specs.declared.deadline.Deadline.{Deadline}
 use Rattle.stack_recovery.specs.declared.fault.RecoveryFault.TheVariants as recovery
 use Rattle.stack_recovery.specs.Deadlines.{EndsAt}
+use Rattle.stack_recovery.specs.declared.way.Way.TheVariants.{Forward}
 use Rattle.stack_recovery.specs.FirstPasses.{FailsSkimOutput, HandsSkimsPart, HandsSkimsUntil, IsSkimBegun, IsSkimCopied, SkimsShort, SkimsUntil, Skipping, Transfer, seen_transfer, skimmed, transfer}
 use Rattle.stack_recovery.specs.Handing.{calls_found}
 use Rattle.stack_recovery.specs.PassPieces.{IsNextPiece, pass_over}
@@ -173,7 +174,7 @@ module _ {O : Type 0} (state : O → Device) (Did : O → Call → O → Type 0)
   }
 
   -- the pass ended here
-  pub skims-until : (deadline : Option Deadline) (sectors : ℕ) → EndsAt deadline at sectors → sectors ≡ size old.stack.config (mapped d) → (state now.out).failures ≡ (state old.out).failures
+  pub skims-until : (deadline : Option Deadline) (sectors : ℕ) → EndsAt deadline Forward at sectors → sectors ≡ size old.stack.config (mapped d) → (state now.out).failures ≡ (state old.out).failures
       → SkimsUntil deadline start before d (seen_transfer state old) (skimmed made wanted) (seen_transfer state now)
   skims-until deadline sectors ends all unfailed =
       let here : at ≡ length (marks made) = u.here ∙ sym (ap length u.noted) in
@@ -189,7 +190,7 @@ module _ {O : Type 0} (state : O → Device) (Did : O → Call → O → Type 0)
           noted = u.noted;
           failed = u.failed;
         };
-        ends = subst (λ (n : ℕ). EndsAt deadline n (size old.stack.config (mapped d))) here (subst (λ (n : ℕ). EndsAt deadline at n) all ends);
+        ends = subst (λ (n : ℕ). EndsAt deadline Forward n (size old.stack.config (mapped d))) here (subst (λ (n : ℕ). EndsAt deadline Forward at n) all ends);
       }
 
   pub hands-skims : HandsSkimsUntil Did before d old now (skimmed made wanted)

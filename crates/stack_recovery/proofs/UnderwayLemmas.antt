@@ -294,7 +294,7 @@ module _ (makes_map : Bool) (before : List Bool) (scan : Scanned) (old now : Sid
   counted-all counts is = let sum : at ≡ at - (tally.lost + tally.untried) + (tally.lost + tally.untried) = omega (arith, few) in sum ∙ sym (ap counted_sectors is)
 
   -- the pass ended here
-  pub underway-until : (deadline : Option Deadline) (printed : Listed) (sectors : ℕ) (course : Course) → EndsAt deadline at sectors → sectors ≡ size old.stack.config (mapped scan.d) → Tells now.printed printed (listed tally.last)
+  pub underway-until : (deadline : Option Deadline) (printed : Listed) (sectors : ℕ) (course : Course) → EndsAt deadline way at sectors → sectors ≡ size old.stack.config (mapped scan.d) → Tells now.printed printed (listed tally.last)
       → course.counts ≡ tally_counts at tally → course.way ≡ way → now.out.failures ≡ old.out.failures → IsWayInside at way sectors → GoesOverUntil deadline before scan old course noted (sides now.stack now.out printed)
   underway-until deadline printed sectors course ends all told is same unfailed inside = record {
     goes = record {
@@ -313,5 +313,6 @@ module _ (makes_map : Bool) (before : List Bool) (scan : Scanned) (old now : Sid
       noted = u.noted;
       bad = u.bad;
     };
-    ends = subst (λ (n : ℕ). EndsAt deadline n (size old.stack.config (mapped scan.d))) (counted-all course.counts is) (subst (λ (n : ℕ). EndsAt deadline at n) all ends);
+    ends = subst (λ (n : ℕ). EndsAt deadline course.way n (size old.stack.config (mapped scan.d))) (counted-all course.counts is)
+        (subst (λ (l : Way). EndsAt deadline l at (size old.stack.config (mapped scan.d))) (sym same) (subst (λ (n : ℕ). EndsAt deadline way at n) all ends));
   }

@@ -14,6 +14,7 @@ use Rattle.stack_recovery.specs.declared.fault.RecoveryFault.{RecoveryFault}
 use Rattle.stack_recovery.specs.declared.fault.RecoveryFault.TheVariants.{NoMemory, Output}
 use Rattle.stack_recovery.specs.declared.skimming.Skimmed.{Skimmed}
 use Rattle.stack_recovery.specs.Deadlines.{EndsAt}
+use Rattle.stack_recovery.specs.declared.way.Way.TheVariants.{Forward}
 use Rattle.stack_recovery.specs.Handing.{IsLastCall}
 use Rattle.stack_recovery.specs.PassPieces.{pass_over}
 use Rattle.stack_recovery.specs.Recoveries.{FindsNoMemory, Sides}
@@ -70,7 +71,7 @@ pub record SkimsTo (skipping : Skipping) (before : List Bool) (d end : ℕ) (old
 -- the pass over the sectors of its map, which ended there
 pub record SkimsUntil (deadline : Option Deadline) (skipping : Skipping) (before : List Bool) (d : ℕ) (old : Transfer Device) (made : Skimmed) (new : Transfer Device) : Type 0 where
   pub reads : SkimsTo skipping before d (length (marks made.map)) old made new
-  pub ends : EndsAt deadline (length (marks made.map)) (size old.stack.config (mapped d))
+  pub ends : EndsAt deadline Forward (length (marks made.map)) (size old.stack.config (mapped d))
 
 -- the first pieces of the pass were read
 pub record IsSkimBegun (skipping : Skipping) (before : List Bool) (d : ℕ) (old : StackRecord) : Type 0 where

@@ -160,7 +160,7 @@ counted_sectors counts = counts.read + (counts.lost + counts.untried)
 -- such a pass over the sectors that are counted, which ended there
 pub record GoesOverUntil (deadline : Option Deadline) (before : List Bool) (scan : Scanned) (old : Sides) (course : Course) (made : Option (List Run)) (new : Sides) : Type 0 where
   pub goes : GoesOverTo before scan (counted_sectors course.counts) course.way old course.counts made new
-  pub ends : EndsAt deadline (counted_sectors course.counts) (size old.stack.config (mapped scan.d))
+  pub ends : EndsAt deadline course.way (counted_sectors course.counts) (size old.stack.config (mapped scan.d))
 
 -- the result has that map
 abbrev pub RescuesUntil : Option Deadline → List Bool → Scanned → Sides → Rescued → Sides → Type 0

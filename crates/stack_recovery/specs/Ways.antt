@@ -9,6 +9,11 @@ abbrev pub is_forward : Way → Bool
 is_forward Forward = true
 is_forward other = false
 
+-- whether it has read some sectors of the run that begins there
+abbrev pub is_backward : Way → Bool
+is_backward (Backward low end) = true
+is_backward other = false
+
 -- whether it has copied the rest of the run from sector `at` on
 abbrev pub is_copied : Way → ℕ → Bool
 is_copied (Backward low end) at = low == at

@@ -2,10 +2,11 @@
 ghost use Rattle.std.specs.Prelude.{◌≡◌, ◌≤◌, IsTrue};
 ghost use Rattle.stack_recovery.specs.Deadlines.{EndsAt, MayEnd};
 
+use crate::way::{Way, is_backward};
 use device_adapters::Progress;
 use stack_config::DevId;
 
-/// A pass may end early, before a sector after `first`, once the clock shows `seconds`.
+/// A pass may end early, before a sector after `first` or after reads backwards, once the clock shows `seconds`.
 #[derive(Clone, Copy)]
 pub struct Deadline {
     pub first: u64,
@@ -33,14 +34,14 @@ pub struct DevicePass {
     pub deadline: Option<Deadline>,
 }
 
-// Returns whether a pass may end before sector `at`, and its time is up.
-fn is_up<P: Progress>(deadline: Option<Deadline>, at: u64, progress: &mut P) -> bool
-    ensures { IsTrue result → MayEnd deadline at }
+// Returns whether a pass that goes on this way may end before sector `at`, and its time is up.
+fn is_up<P: Progress>(deadline: Option<Deadline>, way: Way, at: u64, progress: &mut P) -> bool
+    ensures { IsTrue result → MayEnd deadline way at }
 {
     match deadline {
         None => false,
         Some(end) => {
-            if at <= end.first {
+            if at <= end.first && !is_backward(way) {
                 return false;
             }
             progress.seconds() >= end.seconds
@@ -48,18 +49,19 @@ fn is_up<P: Progress>(deadline: Option<Deadline>, at: u64, progress: &mut P) -> 
     }
 }
 
-/// Returns the sector before which a pass over `sectors` sectors ends that has reached sector `at`.
+/// Returns the sector before which a pass over `sectors` sectors ends that has reached sector `at` and goes on this way.
 pub(crate) fn pass_end<P: Progress>(
     deadline: Option<Deadline>,
+    way: Way,
     at: u64,
     sectors: u64,
     progress: &mut P,
 ) -> u64
     requires { at ≤ sectors }
     ensures few { result ≤ sectors }
-    ensures ends { result ≤ at → EndsAt deadline at sectors }
+    ensures ends { result ≤ at → EndsAt deadline way at sectors }
 {
-    if is_up(deadline, at, progress) {
+    if is_up(deadline, way, at, progress) {
         return at;
     }
     sectors

@@ -111,7 +111,7 @@ fn go_over_by<D: BlockDev, O: BlockDev, L: Listing, P: Progress>(
     let mut tally = Tally::new();
     let mut way = Way::Forward;
     let mut at = 0;
-    'pieces: while at < pass_end(pass.deadline, at, sectors, progress) {
+    'pieces: while at < pass_end(pass.deadline, way, at, sectors, progress) {
         let run = next_stretch(&mut ahead);
         if is_past(run.had, way, at) {
             note(noted, run.count, true, false)?;

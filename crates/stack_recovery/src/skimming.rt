@@ -18,6 +18,7 @@ use crate::piece_limit::MOST_PIECE;
 use crate::recovery::{ROOM, tell};
 use crate::skip::{LEAST_SKIP, longer_skip};
 use crate::stretch::next_stretch;
+use crate::way::Way;
 use block_device::BlockDev;
 use device_adapters::Progress;
 use rescue_map::{Ahead, Map};
@@ -123,7 +124,7 @@ fn skim_by<D: BlockDev, O: BlockDev, P: Progress>(
     let sectors = stack.config().sectors(pass.device);
     let mut skip = pass.skip;
     let mut at = 0;
-    'pieces: while at < pass_end(pass.deadline, at, sectors, progress) {
+    'pieces: while at < pass_end(pass.deadline, Way::Forward, at, sectors, progress) {
         let run = next_stretch(&mut ahead);
         if run.had {
             mark(map, run.count, true, false)?;

@@ -2,7 +2,7 @@
 ghost use Rattle.std.specs.Prelude.{◌≡◌, ◌||◌};
 ghost use Rattle.stack_recovery.specs.PassPieces.{way_lost, way_probed, way_trimmed};
 ghost use Rattle.stack_recovery.specs.Recoveries.{scanned_by};
-ghost use Rattle.stack_recovery.specs.Ways.{is_copied, is_forward, low_of, way_past};
+ghost use Rattle.stack_recovery.specs.Ways.{is_backward, is_copied, is_forward, low_of, way_past};
 
 use crate::deadline::DevicePass;
 
@@ -23,6 +23,16 @@ pub(crate) fn is_forward(way: Way) -> bool
 {
     match way {
         Way::Forward => true,
+        _ => false,
+    }
+}
+
+/// Returns whether the pass has read some sectors of a run backwards.
+pub(crate) fn is_backward(way: Way) -> bool
+    ensures { result ≡ is_backward way }
+{
+    match way {
+        Way::Backward { .. } => true,
         _ => false,
     }
 }
