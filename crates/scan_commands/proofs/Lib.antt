@@ -21,3 +21,5 @@ mod MeantPassLemmas
 mod MeantStateLemmas
 mod PlainPassLemmas
 mod MapUseLemmas
+mod BackwardLemmas
+mod LessLemmas

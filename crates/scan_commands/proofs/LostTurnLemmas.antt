@@ -71,7 +71,7 @@ module _ {S : Type 0} (k : Kept S) (phase : Phase) (old new : Progressed S) (t :
   step = step_of phase
 
   upto : old.at + (new.at - old.at) ≡ new.at
-  upto = omega (arith, t.some)
+  upto = omega (arith, t.least)
 
   few-inside : new.at ≤ k.sectors
   few-inside = omega (arith, t.here, t.next.inside)
@@ -155,9 +155,9 @@ module _ {S : Type 0} (k : Kept S) (phase : Phase) (old new : Progressed S) (t :
   -- the sectors before the turn are as they were
   mark-before : (s : ℕ) → s < old.at → get_or (marks new.runs) s false ≡ get_or (marks old.runs) s false
   mark-before s low =
-      mark-new s (omega (arith, low, t.some))
+      mark-new s (omega (arith, low, t.least))
       ∙ ap (λ (i : Bool). is_recovered (status_after step i (was s) (get_or spliced s false) (get_or bads s false))) (inside-before span s low)
-      ∙ sym (marks-get old.runs s (omega (arith, low, t.some, few-inside, size)))
+      ∙ sym (marks-get old.runs s (omega (arith, low, t.least, few-inside, size)))
 
   -- the marks that it reads by
   abbrev asked : List Bool
@@ -172,12 +172,24 @@ module _ {S : Type 0} (k : Kept S) (phase : Phase) (old new : Progressed S) (t :
   asked-before : (s : ℕ) → s < old.at → get_or asked s false ≡ true
   asked-before s low =
       spliced-before t.span (replicate k.sectors true) (untaken_marks step.takes old.runs) read-inside read-untaken s (omega (arith, low, t.next.first))
-      ∙ get_or-replicate k.sectors s true false (omega (arith, low, t.some, few-inside))
+      ∙ get_or-replicate k.sectors s true false (omega (arith, low, t.least, few-inside))
 
   asked-behind : (s : ℕ) → t.end ≤ s → s < k.sectors → get_or asked s false ≡ true
   asked-behind s past low =
       spliced-behind t.span (replicate k.sectors true) (untaken_marks step.takes old.runs) read-inside read-untaken s (omega (arith, past, t.next.first, t.next.end))
       ∙ get_or-replicate k.sectors s true false low
+
+  pub asked-within : (s : ℕ) → s < k.sectors → get_or asked s false ≡ false → (old.at ≤ s) × (s < t.end)
+  asked-within s low fresh = (
+    elim (cases_lt s old.at) [
+      | inl before ↦ absurd (false≢true (sym fresh ∙ asked-before s before))
+      | inr from ↦ from
+    ],
+    elim (cases_lt s t.end) [
+      | inl before ↦ before
+      | inr past ↦ absurd (false≢true (sym fresh ∙ asked-behind s past low))
+    ],
+  )
 
   pub asked-inside : (s : ℕ) → old.at ≤ s → s < t.end → get_or asked s false ≡ not (is_same (was s) step.takes)
   asked-inside s from to =
@@ -206,7 +218,7 @@ module _ {S : Type 0} (k : Kept S) (phase : Phase) (old new : Progressed S) (t :
         let low : 0 + old.at ≡ old.at = omega arith in
         let high : 0 + new.at ≡ new.at = omega arith in
         subst (λ (n : ℕ). AreBetween n new.at runs) low (subst (λ (n : ℕ). AreBetween (0 + old.at) n runs) high
-        (runs-span 0 old.at new.at states (omega (arith, t.some)) (λ j before. marked-none j (asked-before j before)) none-behind))
+        (runs-span 0 old.at new.at states (omega (arith, t.least)) (λ j before. marked-none j (asked-before j before)) none-behind))
 
     made-get : (s : ℕ) → s < length (marks t.made.map) → get_or made s false ≡ not (is_in runs s)
     made-get s low =

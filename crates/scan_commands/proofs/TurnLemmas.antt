@@ -31,6 +31,7 @@ use Rattle.stack_recovery.specs.Skims.{IsSkimOver, Skim as SkimPiece, marks_of, 
 use Rattle.stack_recovery.specs.FirstPasses.{transfer_of}
 use Rattle.stack_recovery.specs.PassPieces.{IsWayInside, Scanned}
 use Rattle.stack_recovery.specs.Recoveries.{FailsOutput, FindsNoMemory, GoesOverTo, IsMapRefused, IsRescueEnd, RescuesUntil, RunsShort, Sides, counted_sectors, is_had}
+use Rattle.stack_recovery.specs.Ways.{is_backward}
 use Rattle.stack_recovery.specs.declared.way.Way.{Way}
 use Rattle.stack_recovery.specs.declared.way.Way.TheVariants.{Backward, Forward, Turned}
 use Rattle.stack_recovery.specs.Surveys.{AnswersFinding, Finding, IsSurveyOver, PieceRead, SectorState, again, all_states, copied, had, kept, lost, probed, states_of, trimmed}
@@ -86,17 +87,19 @@ reads-unfailed Retry wanted before scan old made new r = r.1.unfailed
 -- ---- one pass over the sectors of a turn
 
 -- it ended past the first sector, and without a map file after the last one
-pub ends-past : (file : Option MapPathRecord) (first : ℕ) (deadline : Option Deadline) (at sectors : ℕ) → IsTurnDeadline file first deadline → first < sectors → EndsAt deadline at sectors → (first < at) × IsUpTo file sectors at
-ends-past None first deadline at sectors until inside ends = whole (subst (λ (x : Option Deadline). EndsAt x at sectors) until ends)
+pub ends-past : (file : Option MapPathRecord) (first : ℕ) (deadline : Option Deadline) (way : Way) (at sectors : ℕ) → IsTurnDeadline file first deadline → first < sectors → EndsAt deadline way at sectors
+    → ((first < at) ⊎ (is_backward way ≡ true)) × IsUpTo file sectors at
+ends-past None first deadline way at sectors until inside ends = whole (subst (λ (x : Option Deadline). EndsAt x way at sectors) until ends)
   where
-    whole : EndsAt None at sectors → (first < at) × (at ≡ sectors)
-    whole (inl e) = (omega (arith, inside, e), e)
+    whole : EndsAt None way at sectors → ((first < at) ⊎ (is_backward way ≡ true)) × (at ≡ sectors)
+    whole (inl e) = (inl (omega (arith, inside, e)), e)
     whole (inr early) = absurd early.0
-ends-past (Some file) first deadline at sectors until inside ends = upto (subst (λ (x : Option Deadline). EndsAt x at sectors) until.1 ends)
+ends-past (Some file) first deadline way at sectors until inside ends = upto (subst (λ (x : Option Deadline). EndsAt x way at sectors) until.1 ends)
   where
-    upto : EndsAt (Some (record { first = first; seconds = until.0 })) at sectors → (first < at) × (at ≤ sectors)
-    upto (inl e) = (omega (arith, inside, e), omega (arith, e))
+    upto : EndsAt (Some (record { first = first; seconds = until.0 })) way at sectors → ((first < at) ⊎ (is_backward way ≡ true)) × (at ≤ sectors)
+    upto (inl e) = (inl (omega (arith, inside, e)), omega (arith, e))
     upto (inr early) = early
+
 
 forward-inside : (way : Way) (at sectors : ℕ) → way ≡ Forward → IsWayInside at way sectors
 forward-inside way at sectors is = subst (λ (x : Way). IsWayInside at x sectors) (sym is) tt
@@ -149,7 +152,7 @@ pub large-reads : (phase : Phase) (r : Result ReadMap RecoveryFault) (deadline :
 large-reads phase (Ok made) deadline most wanted before scan old new large is told p =
     let reads : ReadsLarge phase wanted before scan old made new =
     (subst (λ (m : ℕ). SkimsTo (skipping m wanted) before scan.d (length (marks made.map)) (transfer_of old) (skimmed made.map made.skip) (transfer_of new)) is p.0.reads, told, p.1) in
-    record { reads = as-sectors phase wanted before scan old made new large reads; ends = p.0.ends }
+    record { reads = as-sectors phase wanted before scan old made new large reads; ends = subst (λ (x : Way). EndsAt deadline x (length (marks made.map)) (size old.stack.config (mapped scan.d))) (sym p.1) p.0.ends }
 large-reads phase (Err fault) deadline most wanted before scan old new large is told p = tt
 
 -- a pass by single sectors
@@ -178,7 +181,7 @@ pub left-until : (deadline : Option Deadline) (before : List Bool) (scan : Scann
 left-until deadline before scan old rescued new p =
     let end : counted_sectors rescued.course.counts ≡ length (marks rescued.map) = sym (ap length p.goes.noted ∙ length-states (all_states p.goes.reads) ∙ p.goes.whole) in (
       (rescued.course.counts, subst (λ (n : ℕ). GoesOverTo before scan n rescued.course.way old rescued.course.counts (Some rescued.map) new) end p.goes, refl),
-      subst (λ (n : ℕ). EndsAt deadline n (size old.stack.config (mapped scan.d))) end p.ends,
+      subst (λ (n : ℕ). EndsAt deadline rescued.course.way n (size old.stack.config (mapped scan.d))) end p.ends,
     )
 
 large-end : (phase : Phase) (wanted : ℕ) (before : List Bool) (scan : Scanned) (old new : Sides) (fault : RecoveryFault) → is_large phase ≡ true → new.printed ≡ old.printed

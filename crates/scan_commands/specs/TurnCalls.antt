@@ -27,7 +27,7 @@ use Rattle.scan_commands.specs.TurnEnds.{EndsSectors, IsPassTurnsEnd, StopsIn}
 -- sectors were read, up to the last one or to one where the pass may end
 pub record ReadsUntil (phase : Phase) (wanted : ℕ) (before : List Bool) (scan : Scanned) (deadline : Option Deadline) (old : Sides) (made : ReadMap) (new : Sides) : Type 0 where
   pub reads : ReadsSectors phase wanted before scan old made new
-  pub ends : EndsAt deadline (length (marks made.map)) (size old.stack.config (mapped scan.d))
+  pub ends : EndsAt deadline made.way (length (marks made.map)) (size old.stack.config (mapped scan.d))
 
 -- the device of a turn, and how it is scanned
 abbrev pub turn_scan : ℕ → NextTurn → Scanned
@@ -71,7 +71,7 @@ SkimsLeftBy state pass before old new made = SkimsBy state pass before old new (
 
 -- sectors were read in a pass after the first one, which ended after the last sector or early
 abbrev pub ReadsLeftUntil : Option Deadline → List Bool → Scanned → Sides → ReadMap → Sides → Type 0
-ReadsLeftUntil deadline before scan old made new = ReadsLeft before scan old made new × EndsAt deadline (length (marks made.map)) (size old.stack.config (mapped scan.d))
+ReadsLeftUntil deadline before scan old made new = ReadsLeft before scan old made new × EndsAt deadline made.way (length (marks made.map)) (size old.stack.config (mapped scan.d))
 
 abbrev pub ReadsLeftBy : {O L : Type 0} → (O → Device) → (L → Listed) → DevicePass → List Bool → Parties O L → Parties O L → ReadMap → Type 0
 ReadsLeftBy state told pass before old new made = ReadsLeftUntil pass.deadline before (scanned_by pass) (seen_sides state told old) made (seen_sides state told new)

@@ -1,5 +1,5 @@
 -- A device that is read by a pass in turns. If it has a map file, this is replaced after each turn; else one turn covers the device.
-use Rattle.std.specs.Prelude.{◌≡◌, ℕ, ◌+◌, ◌-◌, ◌*◌, ◌/◌, ◌<◌, ◌≤◌, max, min, Bool, true, false, List, length, replicate, Option, Some, None, Result, Ok}
+use Rattle.std.specs.Prelude.{◌≡◌, ◌⊎◌, ℕ, ◌+◌, ◌-◌, ◌*◌, ◌/◌, ◌<◌, ◌≤◌, max, min, Bool, true, false, List, length, replicate, Option, Some, None, Result, Ok}
 use Rattle.std.specs.List.{list_all}
 use Rattle.block_device.specs.Device.{Device, synced}
 use Rattle.rescue_map.specs.declared.map.Run.{Run}
@@ -18,6 +18,7 @@ use Rattle.stack_recovery.specs.Skips.{least_skip, most_skip}
 use Rattle.stack_rules.specs.Names.{mapped, size}
 use Rattle.stack_recovery.specs.PassPieces.{IsWayInside, Scanned}
 use Rattle.stack_recovery.specs.Recoveries.{GoesOverTo, Sides, sides}
+use Rattle.stack_recovery.specs.Ways.{is_backward}
 use Rattle.stack_recovery.specs.declared.way.Way.{Way}
 use Rattle.stack_recovery.specs.declared.way.Way.TheVariants.{Backward, Forward}
 use Rattle.image_files.specs.declared.texts.ReplaceFault.{ReplaceFault}
@@ -173,7 +174,8 @@ pub record IsTurn {S : Type 0} (k : Kept S) (phase : Phase) (old new : Progresse
   pub made : ReadMap
   pub reads : ReadsSectors phase old.skip (asked_marks phase span k.sectors old.runs) (scan_from k old) old.sides made left
   pub on_medium : new.sides ≡ sides left.stack (synced_by k.file left.out) left.printed
-  pub some : old.at < new.at
+  pub least : old.at ≤ new.at
+  pub some : (old.at < new.at) ⊎ (is_backward made.way ≡ true)
   pub few : IsUpTo k.file k.sectors (length (marks made.map))
   pub here : new.at ≡ min end (length (marks made.map))
   pub behind : IsWayInside (length (marks made.map)) made.way k.sectors

@@ -9,6 +9,7 @@ use Rattle.stack_recovery.specs.Recoveries.{sides}
 use Rattle.scan_commands.specs.MapFiles.{map_path_of}
 use Rattle.scan_commands.specs.Turns.{begins, begun_with, goes_on, passes}
 use Rattle.scan_commands.proofs.TurnLemmas.{err-from}
+use Rattle.scan_commands.proofs.LessLemmas.{turn-less}
 use Rattle.scan_commands.proofs.NextTurnLemmas.{ends-as, turn-config, turn-out, whole-as}
 use Rattle.scan_commands.proofs.turns.read_in_turns.Goals.{then-is_had, else-is_had+in_ok-ended}
 use Rattle.scan_commands.proofs.turns.read_in_turns.Goals as goal
@@ -83,8 +84,8 @@ turns-preserved g c =
 
 pub turns-smaller : goal.turns-smaller
 turns-smaller g c = elim c.if-is_had.branch [
-  | then-is_had w ↦ rw w.at-is (omega (arith, c.min-count.ensures, c.turns-test.true, c.turn_len.ensures.some))
-  | else-is_had+in_ok-ended w ↦ rw w.at-is (omega (arith, w.in_ok-ended.ensures.ok.some, c.turns-test.true))
+  | then-is_had w ↦ rw (w.map-is, w.at-is) (omega (arith, c.min-count.ensures, c.turns-test.true, c.turn_len.ensures.some))
+  | else-is_had+in_ok-ended w ↦ rw (w.map-is, w.at-is) (turn-less _ _ _ _ w.in_ok-ended.ensures.ok c.turns.invariant.map)
 ]
 
 pub returns-clause-ok : goal.returns-clause-ok

@@ -1,10 +1,11 @@
-use Rattle.std.proofs.Common.{◌≡◌, ◌≤◌, ◌-◌, IsTrue, length, option_map}
+use Rattle.std.proofs.Common.{◌≡◌, ◌≤◌, ◌+◌, ◌-◌, IsTrue, length, option_map}
 use Rattle.rescue_map.specs.Maps.{marks}
 use Rattle.stack_rules.specs.Names.{mapped, size}
 use Rattle.stack_recovery.specs.PassPieces.{scanned}
 use Rattle.stack_recovery.specs.Recoveries.{sides}
 use Rattle.scan_commands.specs.MapFiles.{map_path_of}
 use Rattle.scan_commands.specs.Turns.{Turns, begun_with, kept, progressed}
+use Rattle.scan_commands.proofs.LessLemmas.{unmarked}
 use Rattle.scan_commands.proofs.turns.read_in_turns.Given as goal
 
 -- the turns so far, and what the next one needs
@@ -22,4 +23,4 @@ invariant-turns g l = record {
 }
 
 abbrev pub decreases-turns : goal.decreases-turns
-decreases-turns g l = l.sectors - l.at
+decreases-turns g l = unmarked (marks l.map) + (l.sectors - l.at)

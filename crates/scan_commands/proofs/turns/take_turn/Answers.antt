@@ -1,4 +1,4 @@
-use Rattle.std.proofs.Common.{arith, ◌≡◌, ◌∙◌, ◌+◌, min, inr, ℕ, Bool, true, List, length, replicate, refl, ap, subst, sym, option_map}
+use Rattle.std.proofs.Common.{arith, ◌≡◌, ◌⊎◌, ◌<◌, ◌∙◌, ◌+◌, min, inr, ℕ, Bool, true, List, length, replicate, refl, ap, subst, sym, option_map}
 use Rattle.std.proofs.lemmas.List.{length-replicate}
 use Rattle.block_device.specs.Device.{Device}
 use Rattle.rescue_map.specs.declared.stepping.Step.{Step}
@@ -8,11 +8,13 @@ use Rattle.rescue_map.proofs.lemmas.SpanLemmas.{spliced-length}
 use Rattle.rescue_map.proofs.lemmas.StatusLemmas.{untaken-length}
 use Rattle.stack_recovery.specs.PassPieces.{Scanned, scanned}
 use Rattle.stack_recovery.specs.Recoveries.{Sides, sides}
+use Rattle.stack_recovery.specs.Ways.{is_backward}
 use Rattle.scan_commands.specs.declared.rescue_fault.PassFault.TheVariants.{NoMemory, Output}
 use Rattle.scan_commands.specs.MapFiles.{map_path_of, recovery_ending}
-use Rattle.scan_commands.specs.Turns.{IsUpTo, ReadsSectors, StepsBackwards, kept, progressed, span_between, step_of}
+use Rattle.scan_commands.specs.Turns.{ReadsSectors, StepsBackwards, kept, progressed, span_between, step_of}
 use Rattle.scan_commands.specs.TurnCalls.{turn_scan}
-use Rattle.scan_commands.proofs.TurnLemmas.{ends-past, err-from, failed-behind, inside-from, reads-out, reads-unfailed, stops-reading, stops-unmapped, stops-unwritten, synced-failures, way-inside}
+use Rattle.scan_commands.proofs.BackwardLemmas.{read-past}
+use Rattle.scan_commands.proofs.TurnLemmas.{err-from, failed-behind, inside-from, reads-out, reads-unfailed, stops-reading, stops-unmapped, stops-unwritten, synced-failures}
 use Rattle.stack_rules.specs.Names.{mapped, size}
 use Rattle.scan_commands.proofs.turns.take_turn.Goals as goal
 
@@ -26,25 +28,23 @@ read_turn-requires-clause-fits g c =
 
 pub overflow_sub-count : goal.overflow_sub-count
 overflow_sub-count g c =
-    let past = (ends-past (option_map map_path_of c.args.turn.file) c.args.turn.span.first c.args.turn.deadline (length (marks c.in_ok-read.read.map)) (size c.args.stack.now.config (mapped c.args.d.0)) c.requires.until (omega (arith, c.requires.next.some, c.requires.next.inside, c.requires.all)) c.in_ok-read.ensures.ok.ends) in
-    omega (arith, c.min-at.ensures, c.sectors_of.ensures, past.0)
+    let past = read-past (option_map map_path_of c.args.turn.file) c.args.turn.phase c.args.turn.span c.args.turn.sectors c.args.turn.map.now c.args.turn.deadline _ _ (turn_scan c.args.d.0 c.args.turn) _ c.in_ok-read.read _ c.requires.until c.requires.next.some c.requires.next.inside c.requires.map c.requires.all c.requires.wanted c.in_ok-read.ensures.ok in
+    omega (arith, c.min-at.ensures, c.sectors_of.ensures, past.least)
 
 pub stepped-requires-clause-within : goal.stepped-requires-clause-within
 stepped-requires-clause-within g c =
-    let past = (ends-past (option_map map_path_of c.args.turn.file) c.args.turn.span.first c.args.turn.deadline (length (marks c.in_ok-read.read.map)) (size c.args.stack.now.config (mapped c.args.d.0)) c.requires.until (omega (arith, c.requires.next.some, c.requires.next.inside, c.requires.all)) c.in_ok-read.ensures.ok.ends) in
-    omega (arith, c.min-at.ensures, c.sectors_of.ensures, past.0)
+    let past = read-past (option_map map_path_of c.args.turn.file) c.args.turn.phase c.args.turn.span c.args.turn.sectors c.args.turn.map.now c.args.turn.deadline _ _ (turn_scan c.args.d.0 c.args.turn) _ c.in_ok-read.read _ c.requires.until c.requires.next.some c.requires.next.inside c.requires.map c.requires.all c.requires.wanted c.in_ok-read.ensures.ok in
+    omega (arith, c.min-at.ensures, c.sectors_of.ensures, past.least)
 
 pub stepped-requires-clause-inside : goal.stepped-requires-clause-inside
 stepped-requires-clause-inside g c =
-    let past = (ends-past (option_map map_path_of c.args.turn.file) c.args.turn.span.first c.args.turn.deadline (length (marks c.in_ok-read.read.map)) (size c.args.stack.now.config (mapped c.args.d.0)) c.requires.until (omega (arith, c.requires.next.some, c.requires.next.inside, c.requires.all)) c.in_ok-read.ensures.ok.ends) in
-    omega (arith, c.min-at.ensures, c.sectors_of.ensures, past.0, c.requires.next.inside)
+    let past = read-past (option_map map_path_of c.args.turn.file) c.args.turn.phase c.args.turn.span c.args.turn.sectors c.args.turn.map.now c.args.turn.deadline _ _ (turn_scan c.args.d.0 c.args.turn) _ c.in_ok-read.read _ c.requires.until c.requires.next.some c.requires.next.inside c.requires.map c.requires.all c.requires.wanted c.in_ok-read.ensures.ok in
+    omega (arith, c.min-at.ensures, c.sectors_of.ensures, past.least, c.requires.next.inside)
 
 pub stepped_backwards-requires-clause-inside : goal.stepped_backwards-requires-clause-inside
 stepped_backwards-requires-clause-inside g c =
-    let old : Sides = sides c.args.stack.now (g.O.BlockDev.state c.args.out.now) (g.L.Listing.told c.args.listing.now) in
-    let left : Sides = sides c.read_turn.new.stack (g.O.BlockDev.state c.read_turn.new.out) (g.L.Listing.told c.read_turn.new.listing) in
-    inside-from c.in_ok-read.read.way (length (marks c.in_ok-read.read.map)) c.args.turn.sectors
-    (way-inside c.args.turn.phase _ _ (turn_scan c.args.d.0 c.args.turn) old c.in_ok-read.read left c.args.turn.sectors c.requires.all c.in_ok-read.ensures.ok.reads)
+    let past = read-past (option_map map_path_of c.args.turn.file) c.args.turn.phase c.args.turn.span c.args.turn.sectors c.args.turn.map.now c.args.turn.deadline _ _ (turn_scan c.args.d.0 c.args.turn) _ c.in_ok-read.read _ c.requires.until c.requires.next.some c.requires.next.inside c.requires.map c.requires.all c.requires.wanted c.in_ok-read.ensures.ok in
+    inside-from c.in_ok-read.read.way (length (marks c.in_ok-read.read.map)) c.args.turn.sectors past.behind
 
 pub returns-in_err-read-clause-err : goal.returns-in_err-read-clause-err
 returns-in_err-read-clause-err g c =
@@ -140,7 +140,7 @@ pub returns-clause-ok : goal.returns-clause-ok
 returns-clause-ok g c =
     let old : Sides = sides c.args.stack.now (g.O.BlockDev.state c.args.out.now) (g.L.Listing.told c.args.listing.now) in
     let left : Sides = sides c.read_turn.new.stack (g.O.BlockDev.state c.read_turn.new.out) (g.L.Listing.told c.read_turn.new.listing) in
-    let past = (ends-past (option_map map_path_of c.args.turn.file) c.args.turn.span.first c.args.turn.deadline (length (marks c.in_ok-read.read.map)) (size c.args.stack.now.config (mapped c.args.d.0)) c.requires.until (omega (arith, c.requires.next.some, c.requires.next.inside, c.requires.all)) c.in_ok-read.ensures.ok.ends) in
+    let past = read-past (option_map map_path_of c.args.turn.file) c.args.turn.phase c.args.turn.span c.args.turn.sectors c.args.turn.map.now c.args.turn.deadline _ _ (turn_scan c.args.d.0 c.args.turn) _ c.in_ok-read.read _ c.requires.until c.requires.next.some c.requires.next.inside c.requires.map c.requires.all c.requires.wanted c.in_ok-read.ensures.ok in
     record {
       span = c.args.turn.span;
       end = c.args.turn.span.first + c.args.turn.span.count;
@@ -149,11 +149,12 @@ returns-clause-ok g c =
       made = c.in_ok-read.read;
       reads = subst (λ (l : List Bool). ReadsSectors c.args.turn.phase c.args.turn.skip l (turn_scan c.args.d.0 c.args.turn) old c.in_ok-read.read left) c.requires.wanted c.in_ok-read.ensures.ok.reads;
       on_medium = ap (λ (o : Device). sides c.read_turn.new.stack o (g.L.Listing.told c.read_turn.new.listing)) c.in_ok-sync_kept.ensures.ok;
-      some = omega (arith, c.min-at.ensures, c.sectors_of.ensures, past.0, c.requires.next.some);
-      few = subst (λ (n : ℕ). IsUpTo (option_map map_path_of c.args.turn.file) n (length (marks c.in_ok-read.read.map))) (sym c.requires.all) past.1;
+      least = omega (arith, c.min-at.ensures, c.sectors_of.ensures, past.least);
+      some = subst (λ (n : ℕ). (c.args.turn.span.first < n) ⊎ (is_backward c.in_ok-read.read.way ≡ true)) (sym (c.min-at.ensures ∙ ap (min (c.args.turn.span.first + c.args.turn.span.count)) c.sectors_of.ensures)) past.some;
+      few = past.few;
       here = c.min-at.ensures ∙ ap (min (c.args.turn.span.first + c.args.turn.span.count)) c.sectors_of.ensures;
       whole = c.in_ok-map.ensures.sectors ∙ sym c.requires.map;
-      behind = way-inside c.args.turn.phase _ _ (turn_scan c.args.d.0 c.args.turn) old c.in_ok-read.read left c.args.turn.sectors c.requires.all c.in_ok-read.ensures.ok.reads;
+      behind = past.behind;
       forwards = c.in_ok-forwards.forwards;
       same = c.in_ok-forwards.ensures.sectors ∙ sym c.requires.map;
       stepped = c.in_ok-forwards.ensures.ok ∙ ap (λ (s : Step). stepped_statuses s (span_between c.args.turn.span.first c.min-at.result) c.args.turn.map.now c.in_ok-read.read.map) c.step_of-step.ensures;
