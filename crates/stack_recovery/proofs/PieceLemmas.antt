@@ -104,9 +104,9 @@ unread-end p first a b low low' h k = elim (cases_lt a b) [
       where
         either : (a ≡ size p.config (mapped p.d)) ⊎ (slice_index_or p.marks a false ≡ true) → ⊥
         either (inl is) = let in_size = k.inside in omega (arith, below, is, in_size)
-        either (inr had) =
+        either (inr read) =
             let here : first + (a - first) ≡ a = omega (arith, low) in
-            false≢true (sym (k.unread (a - first) (omega (arith, low, below))) ∙ ap (λ (n : ℕ). slice_index_or p.marks n false) here ∙ had)
+            false≢true (sym (k.unread (a - first) (omega (arith, low, below))) ∙ ap (λ (n : ℕ). slice_index_or p.marks n false) here ∙ read)
 
 -- the rest of such a run
 pub unread-rest : (p : Pass) (first next end : ℕ) → first ≤ next → next ≤ end → IsUnreadTo p first end → IsUnreadTo p next end
