@@ -1,9 +1,9 @@
 -- The way that a pass goes on, step by step.
-use Rattle.std.proofs.Common.{◌≡◌, ℕ, zero, suc, eqb, ◌+◌, ◌-◌, ◌*◌, ◌<◌, ◌≤◌, ◌⊎◌, ◌^◌, ◌||◌, Bool, true, false, IsTrue, None, cond, List, [], ◌∷◌, ◌++◌, length, Option, Ok, Err, inl, inr, refl, sym, ap, ◌∙◌, subst, arith}
+use Rattle.std.proofs.Common.{◌≡◌, ℕ, suc, eqb, ◌+◌, ◌-◌, ◌*◌, ◌<◌, ◌≤◌, ◌⊎◌, ◌^◌, ◌||◌, Bool, true, false, IsTrue, None, cond, List, [], ◌∷◌, ◌++◌, Option, Ok, inl, inr, refl, sym, ap, ◌∙◌, subst, arith}
 use Rattle.std.proofs.lemmas.Bool.{eqb-false, eqb-true, false≢true}
 use Rattle.std.specs.Prelude.{replicate}
 use Rattle.block_device.specs.Call.{Call, Write}
-use Rattle.block_device.specs.Device.{Device, HasFailed, IsWritten, sectors_of, spliced}
+use Rattle.block_device.specs.Device.{Device, IsWritten, sectors_of, spliced}
 use Rattle.stack_engine.specs.Bytes.{EachBytes}
 use Rattle.stack_engine.specs.Stacks.{StackRecord}
 use Rattle.rescue_map.specs.declared.map.Run.{Run}
@@ -19,7 +19,7 @@ use Rattle.stack_recovery.specs.declared.way.Way.{Way}
 use Rattle.stack_recovery.specs.declared.way.Way.TheVariants.{Backward, Forward, Turned}
 use Rattle.stack_recovery.specs.LeafReads.{Ahead, CopiesLeaves, EndsCopying, ahead, piece_behind, piece_failed, piece_further, sectors_copied, sectors_had}
 use Rattle.stack_recovery.specs.Listings.{Listed, Tells}
-use Rattle.stack_recovery.specs.PassPieces.{IsProbedTo, IsUnreadTo, IsWayInside, Pass, Scanned, pass_over, way_kept, way_lost, way_probed, way_trimmed}
+use Rattle.stack_recovery.specs.PassPieces.{IsProbedTo, IsUnreadTo, IsWayInside, Pass, Scanned, pass_over, way_lost, way_probed, way_trimmed}
 use Rattle.stack_recovery.specs.Handing.{HandsOverPart}
 use Rattle.stack_recovery.specs.Recoveries.{EndsEarly, NotesMore, RunsShort, Sides, parties, sides}
 use Rattle.stack_recovery.specs.Surveys.{AreMarked}

@@ -8,7 +8,6 @@ use Rattle.block_device.proofs.lemmas.CallLemmas.{calls-last}
 use Rattle.stack_rules.specs.Names.{mapped, size}
 use Rattle.stack_rules.specs.Records.{Configuration}
 use Rattle.stack_engine.specs.Bytes.{EachBytes}
-use Rattle.stack_engine.specs.Stacks.{StackRecord}
 use Rattle.stack_meaning.specs.declared.fault.IoFault.{IoFault}
 use Rattle.rescue_map.specs.Aheads.{marks_ahead}
 use Rattle.rescue_map.specs.Maps.{marks}
@@ -26,7 +25,6 @@ use Rattle.stack_recovery.specs.Stretches.{BeginsOtherwise}
 use Rattle.stack_recovery.specs.Surveys.{AreMarked, MayLose}
 use Rattle.stack_recovery.specs.Trims.{CopiesBehind, ReadsBehind}
 use Rattle.stack_recovery.specs.Ways.{is_copied, is_forward, low_of, way_past}
-use Rattle.stack_recovery.specs.declared.way.Way.{Way}
 use Rattle.stack_recovery.specs.declared.way.Way.TheVariants.{Forward}
 use Rattle.stack_recovery.proofs.AheadLemmas.{ahead-few, ahead-inside, ahead-next, ahead-some, first-run, marked-next, notes-some}
 use Rattle.stack_recovery.proofs.HandingLemmas.{hands-failed, hands-in-run, hands-over, hands-part}
@@ -395,9 +393,11 @@ returns-in_err-lose_run-in-Err-clause-stopped g c =
 
 pub returns-clause-called : goal.returns-clause-called
 returns-clause-called g c =
-    let u = c.pieces.invariant in
-    (u.copied_ahead, subst (λ (n : ℕ). CopiesLeaves g.D.BlockDev.state g.D.BlockDev.does (DeviceDoes g.O.BlockDev.state g.O.BlockDev.does) (marks_ahead c.args.ahead) c.args.pass.device.0 c.args.stack.now c.args.out.now n u.copied_ahead c.pieces.stack c.pieces.out)
-    (counted-all _ _ _ _ _ _ _ _ _ _ u.so_far.under c.finish-counts.result c.finish-counts.ensures.value) u.called)
+    let u = c.pieces.invariant in (
+      u.copied_ahead,
+      subst (λ (n : ℕ). CopiesLeaves g.D.BlockDev.state g.D.BlockDev.does (DeviceDoes g.O.BlockDev.state g.O.BlockDev.does) (marks_ahead c.args.ahead) c.args.pass.device.0 c.args.stack.now c.args.out.now n u.copied_ahead c.pieces.stack c.pieces.out)
+          (counted-all _ _ _ _ _ _ _ _ _ _ u.so_far.under c.finish-counts.result c.finish-counts.ensures.value) u.called,
+    )
 
 pub returns-in_err-note-clause-called : goal.returns-in_err-note-clause-called
 returns-in_err-note-clause-called g c =

@@ -307,8 +307,7 @@ returns-clause-handed g c = hands-skims _ _ _ _ _ _ _ _ _ _ c.pieces.invariant.s
 
 pub returns-clause-called : goal.returns-clause-called
 returns-clause-called g c =
-    let u = c.pieces.invariant in
-    (
+    let u = c.pieces.invariant in (
       ahead 0 0,
       subst (λ (n : ℕ). CopiesLeaves g.D.BlockDev.state g.D.BlockDev.does (DeviceDoes g.O.BlockDev.state g.O.BlockDev.does) (marks_ahead c.args.ahead) c.args.pass.device.0 c.args.stack.now c.args.out.now n (ahead 0 0) c.pieces.stack c.pieces.out)
           (u.so_far.here ∙ sym (ap (λ (l : List Bool). length l) u.so_far.noted)) u.called,
