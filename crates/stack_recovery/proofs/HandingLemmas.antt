@@ -43,7 +43,7 @@ module _ {O L : Type 0} (Did : O → Call → O → Type 0) (makes_map : Bool) (
     last = [];
     survey = h.under.survey;
     made = subst (λ (l : List Call). Calls Did out l out') (h.under.written ∙ sym (append-nil (copy_calls 0 h.under.reads))) h.did;
-    ends = refl;
+    ends = (0, refl);
   }
 
   pub hands-in-run : (stack : StackRecord) (m : Bool) (x y : L) (error : RecoveryFault) → StopsInRun m x y error → HandsOverPart Did before scan.d (parties old.stack out a) (parties stack out' b) error
@@ -62,5 +62,5 @@ module _ {O L : Type 0} (Did : O → Call → O → Type 0) (makes_map : Bool) (
         survey = h.under.survey;
         made = subst (λ (l : List Call). Calls Did out (l ++ Write (sectors + behind) bytes false ∷ []) out'') h.under.written
             (calls-last Did out out' out'' h.calls (Write (sectors + behind) bytes false) h.did (subst (λ (k : ℕ). Did out' (Write (k + behind) bytes false) out'') h.under.here call));
-        ends = (behind, n, bytes, subst (λ (k : ℕ). EachBytes now.stack scan.d (k + behind) n (Ok bytes) stack) h.under.here read, refl);
+        ends = (behind, (n, bytes, subst (λ (k : ℕ). EachBytes now.stack scan.d (k + behind) n (Ok bytes) stack) h.under.here read, refl));
       }

@@ -12,7 +12,7 @@ use Rattle.stack_recovery.specs.Handing.{calls_found, copy_calls}
 use Rattle.stack_recovery.specs.PassLaws.{AreScraped, IsScraped, PassesScrape}
 use Rattle.stack_recovery.specs.PassPieces.{AreInPieces, IsNextPiece, IsPieceFound, IsUnreadTo, Pass, Scanned, pass_over, way_found, way_from, way_lost}
 use Rattle.stack_recovery.specs.declared.way.Way.{Way}
-use Rattle.stack_recovery.specs.declared.way.Way.TheVariants.{Backward, Forward, Turned}
+use Rattle.stack_recovery.specs.declared.way.Way.TheVariants.{Forward}
 use Rattle.stack_recovery.specs.declared.piece.Piece.{Piece}
 use Rattle.stack_recovery.specs.Alike.{AreAlike}
 use Rattle.stack_recovery.specs.Pieces.{EndsAligned, IsPiece}
@@ -96,7 +96,7 @@ single-alike config d first end piece p = by-flag piece.alike refl
 pub unread-end : (p : Pass) (first a b : ℕ) → first < a → first < b → IsUnreadTo p first a → IsUnreadTo p first b → a ≡ b
 unread-end p first a b low low' h k = elim (cases_lt a b) [
   | inl below ↦ absurd (stops-late first a b low below h k)
-  | inr above ↦ elim (cases_lt b a) [ | inl below ↦ absurd (stops-late first b a low' below k h) | inr same ↦ omega (arith, above, same) ]
+  | inr above ↦ elim (cases_lt b a) [ inl below ↦ absurd (stops-late first b a low' below k h) | inr same ↦ omega (arith, above, same) ]
 ]
   where
     stops-late : (first a b : ℕ) → first < a → a < b → IsUnreadTo p first a → IsUnreadTo p first b → ⊥
@@ -104,9 +104,9 @@ unread-end p first a b low low' h k = elim (cases_lt a b) [
       where
         either : (a ≡ size p.config (mapped p.d)) ⊎ (slice_index_or p.marks a false ≡ true) → ⊥
         either (inl is) = let in_size = k.inside in omega (arith, below, is, in_size)
-        either (inr had) =
+        either (inr read) =
             let here : first + (a - first) ≡ a = omega (arith, low) in
-            false≢true (sym (k.unread (a - first) (omega (arith, low, below))) ∙ ap (λ (n : ℕ). slice_index_or p.marks n false) here ∙ had)
+            false≢true (sym (k.unread (a - first) (omega (arith, low, below))) ∙ ap (λ (n : ℕ). slice_index_or p.marks n false) here ∙ read)
 
 -- the rest of such a run
 pub unread-rest : (p : Pass) (first next end : ℕ) → first ≤ next → next ≤ end → IsUnreadTo p first end → IsUnreadTo p next end

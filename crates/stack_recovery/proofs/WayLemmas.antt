@@ -1,9 +1,9 @@
 -- The way that a pass goes on, step by step.
-use Rattle.std.proofs.Common.{◌≡◌, ℕ, zero, suc, eqb, ◌+◌, ◌-◌, ◌*◌, ◌<◌, ◌≤◌, ◌⊎◌, ◌^◌, ◌||◌, Bool, true, false, IsTrue, None, cond, List, [], ◌∷◌, ◌++◌, length, Option, Ok, Err, inl, inr, refl, sym, ap, ◌∙◌, subst, arith}
-use Rattle.std.proofs.lemmas.Bool.{eqb-true, false≢true, ne_eqb}
+use Rattle.std.proofs.Common.{◌≡◌, ℕ, suc, eqb, ◌+◌, ◌-◌, ◌*◌, ◌<◌, ◌≤◌, ◌⊎◌, ◌^◌, ◌||◌, Bool, true, false, IsTrue, None, cond, List, [], ◌∷◌, ◌++◌, Option, Ok, inl, inr, refl, sym, ap, ◌∙◌, subst, arith}
+use Rattle.std.proofs.lemmas.Bool.{eqb-false, eqb-true, false≢true}
 use Rattle.std.specs.Prelude.{replicate}
 use Rattle.block_device.specs.Call.{Call, Write}
-use Rattle.block_device.specs.Device.{Device, HasFailed, IsWritten, sectors_of, spliced}
+use Rattle.block_device.specs.Device.{Device, IsWritten, sectors_of, spliced}
 use Rattle.stack_engine.specs.Bytes.{EachBytes}
 use Rattle.stack_engine.specs.Stacks.{StackRecord}
 use Rattle.rescue_map.specs.declared.map.Run.{Run}
@@ -19,7 +19,7 @@ use Rattle.stack_recovery.specs.declared.way.Way.{Way}
 use Rattle.stack_recovery.specs.declared.way.Way.TheVariants.{Backward, Forward, Turned}
 use Rattle.stack_recovery.specs.LeafReads.{Ahead, CopiesLeaves, EndsCopying, ahead, piece_behind, piece_failed, piece_further, sectors_copied, sectors_had}
 use Rattle.stack_recovery.specs.Listings.{Listed, Tells}
-use Rattle.stack_recovery.specs.PassPieces.{IsProbedTo, IsUnreadTo, IsWayInside, Pass, Scanned, pass_over, way_kept, way_lost, way_probed, way_trimmed}
+use Rattle.stack_recovery.specs.PassPieces.{IsProbedTo, IsUnreadTo, IsWayInside, Pass, Scanned, pass_over, way_lost, way_probed, way_trimmed}
 use Rattle.stack_recovery.specs.Handing.{HandsOverPart}
 use Rattle.stack_recovery.specs.Recoveries.{EndsEarly, NotesMore, RunsShort, Sides, parties, sides}
 use Rattle.stack_recovery.specs.Surveys.{AreMarked}
@@ -88,20 +88,20 @@ is-past p at n (Backward low end) false some marked is run ends =
     let here : low ≡ at = eqb-true low at is in
     (here, unread-end p at end (at + n) (omega (arith, run.0, run.1)) (omega (arith, some)) run.2 (ends refl), marked)
 
-kept-cond : {P : Way → Type 0} (b no_scrape : Bool) → P Forward → P Turned → P (cond b (way_lost no_scrape) Forward)
-kept-cond true true forward turned = turned
-kept-cond true false forward turned = forward
-kept-cond false no_scrape forward turned = forward
+kept-cond : (P : Way → Type 0) (b no_scrape : Bool) → P Forward → P Turned → P (cond b (way_lost no_scrape) Forward)
+kept-cond P true true forward turned = turned
+kept-cond P true false forward turned = forward
+kept-cond P false no_scrape forward turned = forward
 
 -- after them the pass hasn't read backwards
-pub past-any : {P : Way → Type 0} (scan : Scanned) (way : Way) (at : ℕ) → P Forward → P Turned → P (way_past scan way at)
-past-any {P} scan Forward at forward turned = kept-cond {P = P} (eqb at scan.turned) scan.no_scrape forward turned
-past-any {P} scan Turned at forward turned = kept-cond {P = P} (eqb at scan.turned) scan.no_scrape forward turned
-past-any {P} scan (Backward low end) at forward turned = forward
+pub past-any : (P : Way → Type 0) (scan : Scanned) (way : Way) (at : ℕ) → P Forward → P Turned → P (way_past scan way at)
+past-any P scan Forward at forward turned = kept-cond P (eqb at scan.turned) scan.no_scrape forward turned
+past-any P scan Turned at forward turned = kept-cond P (eqb at scan.turned) scan.no_scrape forward turned
+past-any P scan (Backward low end) at forward turned = forward
 
-pub lost-any : {P : Way → Type 0} (no_scrape : Bool) → P Forward → P Turned → P (way_lost no_scrape)
-lost-any true forward turned = turned
-lost-any false forward turned = forward
+pub lost-any : (P : Way → Type 0) (no_scrape : Bool) → P Forward → P Turned → P (way_lost no_scrape)
+lost-any P true forward turned = turned
+lost-any P false forward turned = forward
 
 pub underway-past : (makes_map : Bool) (before : List Bool) (scan : Scanned) (old now : Sides) (at : ℕ) (tally : Tally) (noted : Option (List Run)) (way : Way) (calls : List Call) → IsUnderway makes_map before scan old now at tally noted way calls
     → (n : ℕ) (printed : Listed) (next : Tally) (more : Option (List Run)) → 1 ≤ n → IsPast (pass_over old.stack.config scan.d before) at n way → NotesMore marks noted more (replicate n true) → NotesMore losts noted more (replicate n false)
@@ -219,3 +219,14 @@ module _ {D O : Type 0} (state : D → Device) (does : D → Call → D → Type
   stops-called seen w' p' recovery.NoMemory s =
       subst (λ (x : O). EndsCopying state does Did before d w o w' x) (sym s.1) (inl (at + 0, a, piece_failed s.0.behind s.0.count 0 s.0.fault h s.0.given))
   stops-called seen w' p' recovery.Output s = inr (record { at = at; copied = a; left = v; out = p; first = at + s.behind; count = s.count; bytes = s.bytes; so_far = h; given = s.given; rest = inr s.did })
+
+-- ---- the measure
+
+-- after sectors that were read already
+pub past-smaller : (p : Pass) (scan : Scanned) (at n sectors : ℕ) (way : Way) → 1 ≤ n → at + n ≤ sectors → IsPast p at n way
+    → suc (2 * (sectors - (at + n) - read_behind (way_past scan way (at + n))) + turned_len (way_past scan way (at + n))) ≤ 2 * (sectors - at - read_behind way) + turned_len way
+past-smaller p scan at n sectors Forward some within past =
+    past-any (λ w. suc (2 * (sectors - (at + n) - read_behind w) + turned_len w) ≤ 2 * (sectors - at - 0) + 0) scan Forward (at + n) (omega (arith, some, within)) (omega (arith, some, within))
+past-smaller p scan at n sectors Turned some within past =
+    past-any (λ w. suc (2 * (sectors - (at + n) - read_behind w) + turned_len w) ≤ 2 * (sectors - at - 0) + 1) scan Turned (at + n) (omega (arith, some, within)) (omega (arith, some, within))
+past-smaller p scan at n sectors (Backward low end) some within past = omega (arith, some, within, past.0, past.1)

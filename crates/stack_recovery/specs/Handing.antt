@@ -40,10 +40,14 @@ HandsOverUntil Did pass marks old after new course = HandsOverTo Did marks pass.
 abbrev pub RescueHands : {O L : Type 0} → (O → Call → O → Type 0) → List Bool → ℕ → Parties O L → Parties O L → Rescued → Type 0
 RescueHands Did marks d old new rescued = HandsOverTo Did marks d (counted_sectors rescued.course.counts) old (Some rescued.map) new
 
--- the calls after those of the pieces: none, or the failed write of the piece that was read last, from sector `at` on or behind it
+-- the calls after those of the pieces: none, or the failed write of the piece that was read last, from sector `at` on
 abbrev pub IsLastCall : ℕ → ℕ → StackRecord → StackRecord → RecoveryFault → List Call → Type 0
 IsLastCall d at left stack NoMemory calls = calls ≡ []
-IsLastCall d at left stack Output calls = (behind : ℕ) × (n : ℕ) × (bytes : List ℕ) × EachBytes left d (at + behind) n (Ok bytes) stack × (calls ≡ Write (at + behind) bytes false ∷ [])
+IsLastCall d at left stack Output calls = (n : ℕ) × (bytes : List ℕ) × EachBytes left d at n (Ok bytes) stack × (calls ≡ Write at bytes false ∷ [])
+
+-- or behind it
+abbrev pub IsLastBehind : ℕ → ℕ → StackRecord → StackRecord → RecoveryFault → List Call → Type 0
+IsLastBehind d at left stack fault calls = (behind : ℕ) × IsLastCall d (at + behind) left stack fault calls
 
 -- The recovery ended early: the calls on the output device are those of the pieces so far. A write that failed is the last one.
 pub record HandsOverPart {O L : Type 0} (Did : O → Call → O → Type 0) (marks : List Bool) (d : ℕ) (old new : Parties O L) (fault : RecoveryFault) : Type 0 where
@@ -52,4 +56,4 @@ pub record HandsOverPart {O L : Type 0} (Did : O → Call → O → Type 0) (mar
   pub last : List Call
   pub survey : IsSurveyOver marks d 0 old.stack reads left
   pub made : Calls Did old.out (copy_calls 0 reads ++ last) new.out
-  pub ends : IsLastCall d (length (all_states reads)) left new.stack fault last
+  pub ends : IsLastBehind d (length (all_states reads)) left new.stack fault last

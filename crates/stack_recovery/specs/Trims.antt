@@ -1,5 +1,5 @@
 -- A piece before sectors that were read backwards.
-use Rattle.std.specs.Prelude.{◌≡◌, ℕ, ◌+◌, ◌-◌, ◌<◌, ◌≤◌, true, false, IsTrue, List, length, Ok, Err}
+use Rattle.std.specs.Prelude.{◌≡◌, ℕ, ◌+◌, ◌-◌, ◌<◌, ◌≤◌, true, false, IsTrue, List, Ok, Err}
 use Rattle.block_device.specs.Call.{Call, Write}
 use Rattle.block_device.specs.Device.{Device, HasFailed, IsWritten, sectors_of, spliced}
 use Rattle.stack_meaning.specs.declared.fault.IoFault.{IoFault}

@@ -2,7 +2,7 @@
 use Rattle.std.specs.Prelude.{ℕ, ◌==◌, Bool, true, false}
 use Rattle.stack_recovery.specs.PassPieces.{Scanned, way_kept}
 use Rattle.stack_recovery.specs.declared.way.Way.{Way}
-use Rattle.stack_recovery.specs.declared.way.Way.TheVariants.{Backward, Forward, Turned}
+use Rattle.stack_recovery.specs.declared.way.Way.TheVariants.{Backward, Forward}
 
 -- whether it reads the next sectors
 abbrev pub is_forward : Way → Bool

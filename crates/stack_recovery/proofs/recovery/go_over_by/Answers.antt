@@ -8,7 +8,6 @@ use Rattle.block_device.proofs.lemmas.CallLemmas.{calls-last}
 use Rattle.stack_rules.specs.Names.{mapped, size}
 use Rattle.stack_rules.specs.Records.{Configuration}
 use Rattle.stack_engine.specs.Bytes.{EachBytes}
-use Rattle.stack_engine.specs.Stacks.{StackRecord}
 use Rattle.stack_meaning.specs.declared.fault.IoFault.{IoFault}
 use Rattle.rescue_map.specs.Aheads.{marks_ahead}
 use Rattle.rescue_map.specs.Maps.{marks}
@@ -25,8 +24,7 @@ use Rattle.stack_recovery.specs.Recoveries.{EndsEarly, Sides, scanned_by, sides}
 use Rattle.stack_recovery.specs.Stretches.{BeginsOtherwise}
 use Rattle.stack_recovery.specs.Surveys.{AreMarked, MayLose}
 use Rattle.stack_recovery.specs.Trims.{CopiesBehind, ReadsBehind}
-use Rattle.stack_recovery.specs.Ways.{is_forward, low_of, way_past}
-use Rattle.stack_recovery.specs.declared.way.Way.{Way}
+use Rattle.stack_recovery.specs.Ways.{is_copied, is_forward, low_of, way_past}
 use Rattle.stack_recovery.specs.declared.way.Way.TheVariants.{Forward}
 use Rattle.stack_recovery.proofs.AheadLemmas.{ahead-few, ahead-inside, ahead-next, ahead-some, first-run, marked-next, notes-some}
 use Rattle.stack_recovery.proofs.HandingLemmas.{hands-failed, hands-in-run, hands-over, hands-part}
@@ -34,7 +32,7 @@ use Rattle.stack_recovery.proofs.LeafReadLemmas.{copies-again, copies-failed, co
 use Rattle.stack_recovery.proofs.PieceLemmas.{next-piece, single-alike, unread-run}
 use Rattle.stack_recovery.proofs.SurveyLemmas.{no-memory}
 use Rattle.stack_recovery.proofs.TrimLemmas.{underway-trimmed}
-use Rattle.stack_recovery.proofs.WayLemmas.{IsRegion, IsWayRun, called-behind, called-past, called-trimmed, forward-is, is-past, lost-any, or-left, or-right, past-any, probed-from, probed-some, probed-within, region-trimmed, run-behind, run-trimmed, stops-called, stops-early, stops-handing, underway-behind, underway-past, way-inside}
+use Rattle.stack_recovery.proofs.WayLemmas.{IsRegion, IsWayRun, called-behind, called-past, called-trimmed, forward-is, is-past, lost-any, or-left, or-right, past-any, past-smaller, probed-from, probed-some, probed-within, region-trimmed, run-behind, run-trimmed, stops-called, stops-early, stops-handing, underway-behind, underway-past, way-inside}
 use Rattle.stack_recovery.proofs.UnderwayLemmas.{IsUnderway, closed-tally, counted-all, ends-in-run, fails-output, few, note-room, runs-short, underway-had, underway-lost, underway-none, underway-until}
 use Rattle.stack_recovery.proofs.lemmas.WritingLemmas.{err-from}
 use Rattle.stack_recovery.proofs.recovery.go_over_by.Goals as goal
@@ -117,17 +115,17 @@ pieces-preserved-then-is_past g c =
     let now : Sides = sides c.pieces.stack (g.O.BlockDev.state c.pieces.out) (g.L.Listing.told c.pieces.listing) in
     let new : Sides = sides c.pieces.stack (g.O.BlockDev.state c.pieces.out) (g.L.Listing.told c.close.new.listing) in
     let way = way_past (scanned_by c.args.pass) c.pieces.way (c.pieces.at + here.count) in
-    rw c.way_past.ensures (record {
+    rw c.way_past-way.ensures (record {
       so_far = record {
         calls = u.so_far.calls;
         under = underway-past (is_some c.args.noted.now) before (scanned_by c.args.pass) old now c.pieces.at c.pieces.tally c.pieces.noted c.pieces.way u.so_far.calls u.so_far.under here.count (g.L.Listing.told c.close.new.listing) c.close.new.self c.note.new.noted
             c.next_stretch-run.ensures.some past c.in_ok-note.ensures.ok c.in_ok-note.ensures.lost c.close.ensures.text tally;
         did = u.so_far.did;
       };
-      run = past-any {P = λ w. IsWayRun p (c.pieces.at + here.count) w} (scanned_by c.args.pass) c.pieces.way (c.pieces.at + here.count) tt tt;
+      run = past-any (λ w. IsWayRun p (c.pieces.at + here.count) w) (scanned_by c.args.pass) c.pieces.way (c.pieces.at + here.count) tt tt;
       copied_ahead = u.copied_ahead;
       called = called-past g.D.BlockDev.state g.D.BlockDev.does (DeviceDoes g.O.BlockDev.state g.O.BlockDev.does) before config c.args.pass.device.0 c.args.stack.now c.args.out.now c.pieces.at c.pieces.stack c.pieces.out c.pieces.way u.copied_ahead here.count u.called u.region past;
-      region = past-any {P = λ w. IsRegion w u.copied_ahead} (scanned_by c.args.pass) c.pieces.way (c.pieces.at + here.count) tt tt;
+      region = past-any (λ w. IsRegion w u.copied_ahead) (scanned_by c.args.pass) c.pieces.way (c.pieces.at + here.count) tt tt;
       ahead = ahead-next before c.pieces.at here.count _ _ _ (u.ahead ∙ sym c.next_stretch-run.ensures.same) c.pass.ensures.marks;
       config = u.config;
       within = inside;
@@ -137,8 +135,8 @@ pieces-preserved-then-is_past g c =
       noted = notes-some marks c.pieces.noted c.note.new.noted _ c.in_ok-note.ensures.ok ∙ u.noted;
     })
 
-pub overflow_add-at-else-is_past : goal.overflow_add-at-else-is_past
-overflow_add-at-else-is_past g c =
+pub overflow_add-at-then-is_forward : goal.overflow_add-at-then-is_forward
+overflow_add-at-then-is_forward g c =
     let u = c.pieces.invariant in
     let first = first-run c.pieces.ahead c.next_stretch-run.new.ahead c.next_stretch-run.result c.next_stretch-run.ensures.same c.next_stretch-run.ensures.first in
     let inside = ahead-inside (marks_ahead c.args.ahead) c.pieces.at c.sectors-sectors.result c.next_stretch-run.result.count c.next_stretch-run.result.had _ _ (c.requires.fits ∙ sym u.all) u.ahead first u.within in
@@ -150,7 +148,7 @@ piece_at-piece-requires-clause-inside g c =
     let count : ℕ = c.next_stretch-run.result.count in
     let first = first-run c.pieces.ahead c.next_stretch-run.new.ahead c.next_stretch-run.result c.next_stretch-run.ensures.same c.next_stretch-run.ensures.first in
     let inside = ahead-inside (marks_ahead c.args.ahead) c.pieces.at c.sectors-sectors.result count c.next_stretch-run.result.had _ _ (c.requires.fits ∙ sym u.all) u.ahead first u.within in
-    subst (λ (x : Configuration). c.pieces.at + count ≤ size x (mapped c.args.pass.device.0)) (sym (c.config-else-is_past.ensures.value ∙ u.config)) (subst (λ (m : ℕ). c.pieces.at + count ≤ m) u.all inside)
+    subst (λ (x : Configuration). c.pieces.at + count ≤ size x (mapped c.args.pass.device.0)) (sym (c.config-then-is_forward.ensures.value ∙ u.config)) (subst (λ (m : ℕ). c.pieces.at + count ≤ m) u.all inside)
 
 pub read_bytes-requires-clause-inside : goal.read_bytes-requires-clause-inside
 read_bytes-requires-clause-inside g c =
@@ -221,7 +219,7 @@ pieces-preserved-in-Ok g c =
     let n : ℕ = c.piece_at-piece.result.count in
     let first = first-run c.pieces.ahead c.next_stretch-run.new.ahead here c.next_stretch-run.ensures.same c.next_stretch-run.ensures.first in
     let inside = ahead-inside before c.pieces.at c.sectors-sectors.result here.count here.had _ _ (c.requires.fits ∙ sym u.all) u.ahead first u.within in
-    let marked : AreMarked before c.pieces.at n false = subst (AreMarked before c.pieces.at n) (or-left _ _ (sym c.is_past.ensures ∙ c.if-is_past.false)) (marked-next before c.pieces.at n here.count here.had _ (omega (arith, c.piece_at-piece.ensures.inside)) (u.ahead ∙ first)) in
+    let marked : AreMarked before c.pieces.at n false = subst (AreMarked before c.pieces.at n) (or-left c.next_stretch-run.result.had (is_copied c.pieces.way c.pieces.at) (sym c.is_past.ensures ∙ c.if-is_past.false)) (marked-next before c.pieces.at n here.count here.had _ (omega (arith, c.piece_at-piece.ensures.inside)) (u.ahead ∙ first)) in
     let wide : length (take (n * 512) c.pieces.room) ≡ n * 512 = length-take-le (n * 512) c.pieces.room (omega (arith, c.requires.buffer, c.pieces.auto.room, c.piece_at-piece.ensures.few)) in
     let number : length (take (n * 512) c.pieces.room) / 512 ≡ n = omega (arith, wide) in
     let bytes : List ℕ = c.read_bytes.new.out in
@@ -235,9 +233,9 @@ pieces-preserved-in-Ok g c =
     let same : c.from-count.result ≡ n = c.from-count.ensures in
     let next : IsNextPiece (pass_over c.args.stack.now.config c.args.pass.device.0 before) c.pieces.at 1 n =
     next-piece c.args.stack.now.config c.args.pass.device.0 before c.pieces.at here.count c.sectors-sectors.result 1 n (marks c.next_stretch-run.new.ahead.rest.now)
-    (u.ahead ∙ subst (λ (h : Bool). marks_ahead c.pieces.ahead ≡ replicate here.count h ++ marks c.next_stretch-run.new.ahead.rest.now) (or-left _ _ (sym c.is_past.ensures ∙ c.if-is_past.false)) first) (c.requires.fits ∙ sym u.all) u.within
-    inside u.all (subst (λ (h : Bool). BeginsOtherwise h (marks c.next_stretch-run.new.ahead.rest.now)) (or-left _ _ (sym c.is_past.ensures ∙ c.if-is_past.false)) c.next_stretch-run.ensures.longest)
-    (subst (λ (x : Configuration). EndsAligned x c.args.pass.device.0 c.pieces.at (c.pieces.at + here.count) 1 n) (c.config-else-is_past.ensures.value ∙ u.config) c.piece_at-piece.ensures.ends) in
+    (u.ahead ∙ subst (λ (h : Bool). marks_ahead c.pieces.ahead ≡ replicate here.count h ++ marks c.next_stretch-run.new.ahead.rest.now) (or-left c.next_stretch-run.result.had (is_copied c.pieces.way c.pieces.at) (sym c.is_past.ensures ∙ c.if-is_past.false)) first) (c.requires.fits ∙ sym u.all) u.within
+    inside u.all (subst (λ (h : Bool). BeginsOtherwise h (marks c.next_stretch-run.new.ahead.rest.now)) (or-left c.next_stretch-run.result.had (is_copied c.pieces.way c.pieces.at) (sym c.is_past.ensures ∙ c.if-is_past.false)) c.next_stretch-run.ensures.longest)
+    (subst (λ (x : Configuration). EndsAligned x c.args.pass.device.0 c.pieces.at (c.pieces.at + here.count) 1 n) (c.config-then-is_forward.ensures.value ∙ u.config) c.piece_at-piece.ensures.ends) in
     let forward : c.pieces.way ≡ Forward = forward-is c.pieces.way (sym c.is_forward.ensures ∙ c.if-is_forward.true) in
     rw forward (record {
       so_far = record {
@@ -307,31 +305,31 @@ returns-in_err-lose_run-in-Err-clause-err g c =
     err-from c.from_residual-in_err-lose_run-in-Err.result _ _ c.from_residual-in_err-lose_run-in-Err.ensures.1
     (ends-in-run _ _ _ _ _ _ _ _ _ _ u.so_far.under g.L.Listing.told c.read_bytes.new.self c.pieces.listing c.lose_run.new.listing c.in_err-lose_run-in-Err.field-0.0 refl u.unfailed u.noted c.in_err-lose_run-in-Err.ensures.err)
 
-pub pieces-preserved : goal.pieces-preserved
-pieces-preserved g c =
+pub pieces-preserved-in-Err : goal.pieces-preserved-in-Err
+pieces-preserved-in-Err g c =
     let u = c.pieces.invariant in
     let before : List Bool = marks_ahead c.args.ahead in
     let here : Run = c.next_stretch-run.result in
     let n : ℕ = c.piece_at-piece.result.count in
     let first = first-run c.pieces.ahead c.next_stretch-run.new.ahead here c.next_stretch-run.ensures.same c.next_stretch-run.ensures.first in
     let inside = ahead-inside before c.pieces.at c.sectors-sectors.result here.count here.had _ _ (c.requires.fits ∙ sym u.all) u.ahead first u.within in
-    let marked : AreMarked before c.pieces.at n false = subst (AreMarked before c.pieces.at n) (or-left _ _ (sym c.is_past.ensures ∙ c.if-is_past.false)) (marked-next before c.pieces.at n here.count here.had _ (omega (arith, c.piece_at-piece.ensures.inside)) (u.ahead ∙ first)) in
+    let marked : AreMarked before c.pieces.at n false = subst (AreMarked before c.pieces.at n) (or-left c.next_stretch-run.result.had (is_copied c.pieces.way c.pieces.at) (sym c.is_past.ensures ∙ c.if-is_past.false)) (marked-next before c.pieces.at n here.count here.had _ (omega (arith, c.piece_at-piece.ensures.inside)) (u.ahead ∙ first)) in
     let wide : length (take (n * 512) c.pieces.room) ≡ n * 512 = length-take-le (n * 512) c.pieces.room (omega (arith, c.requires.buffer, c.pieces.auto.room, c.piece_at-piece.ensures.few)) in
     let number : length (take (n * 512) c.pieces.room) / 512 ≡ n = omega (arith, wide) in
     let piece = subst (λ (m : ℕ). EachBytes c.pieces.stack c.args.pass.device.0 c.pieces.at m (Err c.in-Err.fault) c.read_bytes.new.self) number (record { any = c.in-Err.ensures.any; steady = c.in-Err.ensures.steady }) in
     let may : MayLose c.pieces.stack.config c.args.pass.device.0 c.pieces.at n c.in-Err.fault =
-    (subst (λ (x : Configuration). AreAlike x c.args.pass.device.0 c.pieces.at n) c.config-else-is_past.ensures.value (single-alike _ _ _ _ c.piece_at-piece.result c.piece_at-piece.ensures), c.in_ok-check_memory-in-Err.ensures.ok) in
+    (subst (λ (x : Configuration). AreAlike x c.args.pass.device.0 c.pieces.at n) c.config-then-is_forward.ensures.value (single-alike _ _ _ _ c.piece_at-piece.result c.piece_at-piece.ensures), c.in_ok-check_memory-in-Err.ensures.ok) in
     let old : Sides = sides c.args.stack.now (g.O.BlockDev.state c.args.out.now) (g.L.Listing.told c.args.listing.now) in
     let new : Sides = sides c.read_bytes.new.self (g.O.BlockDev.state c.pieces.out) (g.L.Listing.told c.lose_run.new.listing) in
     let same : c.from-count.result ≡ n = c.from-count.ensures in
     let next : IsNextPiece (pass_over c.args.stack.now.config c.args.pass.device.0 before) c.pieces.at 1 n =
     next-piece c.args.stack.now.config c.args.pass.device.0 before c.pieces.at here.count c.sectors-sectors.result 1 n (marks c.next_stretch-run.new.ahead.rest.now)
-    (u.ahead ∙ subst (λ (h : Bool). marks_ahead c.pieces.ahead ≡ replicate here.count h ++ marks c.next_stretch-run.new.ahead.rest.now) (or-left _ _ (sym c.is_past.ensures ∙ c.if-is_past.false)) first) (c.requires.fits ∙ sym u.all) u.within
-    inside u.all (subst (λ (h : Bool). BeginsOtherwise h (marks c.next_stretch-run.new.ahead.rest.now)) (or-left _ _ (sym c.is_past.ensures ∙ c.if-is_past.false)) c.next_stretch-run.ensures.longest)
-    (subst (λ (x : Configuration). EndsAligned x c.args.pass.device.0 c.pieces.at (c.pieces.at + here.count) 1 n) (c.config-else-is_past.ensures.value ∙ u.config) c.piece_at-piece.ensures.ends) in
+    (u.ahead ∙ subst (λ (h : Bool). marks_ahead c.pieces.ahead ≡ replicate here.count h ++ marks c.next_stretch-run.new.ahead.rest.now) (or-left c.next_stretch-run.result.had (is_copied c.pieces.way c.pieces.at) (sym c.is_past.ensures ∙ c.if-is_past.false)) first) (c.requires.fits ∙ sym u.all) u.within
+    inside u.all (subst (λ (h : Bool). BeginsOtherwise h (marks c.next_stretch-run.new.ahead.rest.now)) (or-left c.next_stretch-run.result.had (is_copied c.pieces.way c.pieces.at) (sym c.is_past.ensures ∙ c.if-is_past.false)) c.next_stretch-run.ensures.longest)
+    (subst (λ (x : Configuration). EndsAligned x c.args.pass.device.0 c.pieces.at (c.pieces.at + here.count) 1 n) (c.config-then-is_forward.ensures.value ∙ u.config) c.piece_at-piece.ensures.ends) in
     let noting = rw (c.lost_run-lost.ensures, same) at c.in_ok-lose_run-in-Err.ensures.noted in
     let forward : c.pieces.way ≡ Forward = forward-is c.pieces.way (sym c.is_forward.ensures ∙ c.if-is_forward.true) in
-    rw c.way_lost.ensures (record {
+    rw c.way_lost-way.ensures (record {
       so_far = record {
         calls = u.so_far.calls;
         under = subst (λ (m : ℕ). IsUnderway (is_some c.args.noted.now) before (scanned_by c.args.pass) old new (c.pieces.at + m) c.lose_run.new.tally c.lose_run.new.noted (way_lost c.args.pass.no_scrape) u.so_far.calls) (sym same)
@@ -339,9 +337,9 @@ pieces-preserved g c =
             forward next c.piece_at-piece.ensures.some piece marked noting may (rw (c.lost_run-lost.ensures, same) at c.in_ok-lose_run-in-Err.ensures.told) (rw (c.lost_run-lost.ensures, same) at c.in_ok-lose_run-in-Err.ensures.tallied));
         did = u.so_far.did;
       };
-      run = lost-any {P = λ w. IsWayRun (pass_over c.args.stack.now.config c.args.pass.device.0 before) (c.pieces.at + c.from-count.result) w} c.args.pass.no_scrape tt tt;
+      run = lost-any (λ w. IsWayRun (pass_over c.args.stack.now.config c.args.pass.device.0 before) (c.pieces.at + c.from-count.result) w) c.args.pass.no_scrape tt tt;
       copied_ahead = u.copied_ahead;
-      region = lost-any {P = λ w. IsRegion w u.copied_ahead} c.args.pass.no_scrape tt tt;
+      region = lost-any (λ w. IsRegion w u.copied_ahead) c.args.pass.no_scrape tt tt;
       called = copies-failed g.D.BlockDev.state g.D.BlockDev.does (DeviceDoes g.O.BlockDev.state g.O.BlockDev.does) before c.args.pass.device.0 c.args.stack.now c.args.out.now c.pieces.at c.pieces.stack c.read_bytes.new.self c.pieces.out u.copied_ahead u.called (length (take (n * 512) c.pieces.room) / 512) c.from-count.result c.in-Err.fault c.in-Err.ensures.given;
       ahead = ahead-next before c.pieces.at c.from-count.result _ _ _ (u.ahead ∙ sym c.next_stretch-run.ensures.same) c.pass-in-Err.ensures.marks;
       config = c.in-Err.ensures.any.config ∙ u.config;
@@ -352,14 +350,14 @@ pieces-preserved g c =
       noted = notes-some marks c.pieces.noted c.lose_run.new.noted _ noting.0 ∙ u.noted;
     })
 
-pub finish-requires : goal.finish-requires
-finish-requires g c = few _ _ _ _ _ _ _ _ _ _ c.pieces.invariant.so_far.under
+pub finish-counts-requires : goal.finish-counts-requires
+finish-counts-requires g c = few _ _ _ _ _ _ _ _ _ _ c.pieces.invariant.so_far.under
 
 pub returns-clause-ok : goal.returns-clause-ok
 returns-clause-ok g c =
     let u = c.pieces.invariant in
     let p = pass_over c.args.stack.now.config c.args.pass.device.0 (marks_ahead c.args.ahead) in
-    underway-until _ _ _ _ _ _ _ _ _ _ u.so_far.under c.args.pass.deadline (g.L.Listing.told c.finish.new.listing) c.sectors-sectors.result (record { counts = c.finish-counts.result; way = c.pieces.way }) (c.pass_end.ensures.ends c.pieces-test.false) u.all
+    underway-until _ _ _ _ _ _ _ _ _ _ u.so_far.under c.args.pass.deadline (g.L.Listing.told c.finish-counts.new.listing) c.sectors-sectors.result (record { counts = c.finish-counts.result; way = c.pieces.way }) (c.pass_end.ensures.ends c.pieces-test.false) u.all
     c.finish-counts.ensures.text c.finish-counts.ensures.value refl u.unfailed (subst (λ (n : ℕ). IsWayInside c.pieces.at c.pieces.way n) (sym u.all) (way-inside p c.pieces.at c.pieces.way u.run))
 
 pub returns-clause-handed : goal.returns-clause-handed
@@ -395,9 +393,11 @@ returns-in_err-lose_run-in-Err-clause-stopped g c =
 
 pub returns-clause-called : goal.returns-clause-called
 returns-clause-called g c =
-    let u = c.pieces.invariant in
-    (u.copied_ahead, subst (λ (n : ℕ). CopiesLeaves g.D.BlockDev.state g.D.BlockDev.does (DeviceDoes g.O.BlockDev.state g.O.BlockDev.does) (marks_ahead c.args.ahead) c.args.pass.device.0 c.args.stack.now c.args.out.now n u.copied_ahead c.pieces.stack c.pieces.out)
-    (counted-all _ _ _ _ _ _ _ _ _ _ u.so_far.under c.finish-counts.result c.finish-counts.ensures.value) u.called)
+    let u = c.pieces.invariant in (
+      u.copied_ahead,
+      subst (λ (n : ℕ). CopiesLeaves g.D.BlockDev.state g.D.BlockDev.does (DeviceDoes g.O.BlockDev.state g.O.BlockDev.does) (marks_ahead c.args.ahead) c.args.pass.device.0 c.args.stack.now c.args.out.now n u.copied_ahead c.pieces.stack c.pieces.out)
+          (counted-all _ _ _ _ _ _ _ _ _ _ u.so_far.under c.finish-counts.result c.finish-counts.ensures.value) u.called,
+    )
 
 pub returns-in_err-note-clause-called : goal.returns-in_err-note-clause-called
 returns-in_err-note-clause-called g c =
@@ -442,7 +442,7 @@ read_behind-requires-clause-inside g c =
     let at : ℕ = c.pieces.at in
     let first = first-run c.pieces.ahead c.next_stretch-run.new.ahead c.next_stretch-run.result c.next_stretch-run.ensures.same c.next_stretch-run.ensures.first in
     let inside = ahead-inside (marks_ahead c.args.ahead) c.pieces.at c.sectors-sectors.result c.next_stretch-run.result.count c.next_stretch-run.result.had _ _ (c.requires.fits ∙ sym u.all) u.ahead first u.within in
-    let had : here.had ≡ false = (or-left _ _ (sym c.is_past.ensures ∙ c.if-is_past.false)) in
+    let had : here.had ≡ false = (or-left c.next_stretch-run.result.had (is_copied c.pieces.way c.pieces.at) (sym c.is_past.ensures ∙ c.if-is_past.false)) in
     let run_end : IsUnreadTo p at (at + here.count) =
     unread-run config c.args.pass.device.0 before at here.count c.sectors-sectors.result (marks c.next_stretch-run.new.ahead.rest.now)
     (u.ahead ∙ subst (λ (h : Bool). marks_ahead c.pieces.ahead ≡ replicate here.count h ++ marks c.next_stretch-run.new.ahead.rest.now) had first) (c.requires.fits ∙ sym u.all) u.within
@@ -451,7 +451,7 @@ read_behind-requires-clause-inside g c =
     let low_is : c.low_of-low.result ≡ low = c.low_of-low.ensures in
     let turned : is_forward c.pieces.way ≡ false = sym c.is_forward.ensures ∙ c.if-is_forward.false in
     let probed : IsProbedTo p at c.pieces.way low = probed-from p at here.count c.next_stretch-run.ensures.some c.pieces.way turned run_end in
-    let after : at < low = probed-some p at here.count c.next_stretch-run.ensures.some c.pieces.way u.run (or-right _ _ (sym c.is_past.ensures ∙ c.if-is_past.false)) in
+    let after : at < low = probed-some p at here.count c.next_stretch-run.ensures.some c.pieces.way u.run (or-right here.had (is_copied c.pieces.way at) (sym c.is_past.ensures ∙ c.if-is_past.false)) in
     let below : low ≤ at + here.count = probed-within p at here.count c.next_stretch-run.ensures.some c.pieces.way u.run run_end in
     let marked : AreMarked before at (low - at) false = λ j less. run_end.unread j (omega (arith, less, below)) in
     (omega (arith, after, low_is), subst (λ (x : Configuration). c.low_of-low.result ≤ size x (mapped c.args.pass.device.0)) (sym u.config) (subst (λ (m : ℕ). c.low_of-low.result ≤ m) u.all (omega (arith, below, low_is, inside))))
@@ -491,7 +491,7 @@ pieces-preserved-in-Copied g c =
     let at : ℕ = c.pieces.at in
     let first = first-run c.pieces.ahead c.next_stretch-run.new.ahead c.next_stretch-run.result c.next_stretch-run.ensures.same c.next_stretch-run.ensures.first in
     let inside = ahead-inside (marks_ahead c.args.ahead) c.pieces.at c.sectors-sectors.result c.next_stretch-run.result.count c.next_stretch-run.result.had _ _ (c.requires.fits ∙ sym u.all) u.ahead first u.within in
-    let had : here.had ≡ false = (or-left _ _ (sym c.is_past.ensures ∙ c.if-is_past.false)) in
+    let had : here.had ≡ false = (or-left c.next_stretch-run.result.had (is_copied c.pieces.way c.pieces.at) (sym c.is_past.ensures ∙ c.if-is_past.false)) in
     let run_end : IsUnreadTo p at (at + here.count) =
     unread-run config c.args.pass.device.0 before at here.count c.sectors-sectors.result (marks c.next_stretch-run.new.ahead.rest.now)
     (u.ahead ∙ subst (λ (h : Bool). marks_ahead c.pieces.ahead ≡ replicate here.count h ++ marks c.next_stretch-run.new.ahead.rest.now) had first) (c.requires.fits ∙ sym u.all) u.within
@@ -500,7 +500,7 @@ pieces-preserved-in-Copied g c =
     let low_is : c.low_of-low.result ≡ low = c.low_of-low.ensures in
     let turned : is_forward c.pieces.way ≡ false = sym c.is_forward.ensures ∙ c.if-is_forward.false in
     let probed : IsProbedTo p at c.pieces.way low = probed-from p at here.count c.next_stretch-run.ensures.some c.pieces.way turned run_end in
-    let after : at < low = probed-some p at here.count c.next_stretch-run.ensures.some c.pieces.way u.run (or-right _ _ (sym c.is_past.ensures ∙ c.if-is_past.false)) in
+    let after : at < low = probed-some p at here.count c.next_stretch-run.ensures.some c.pieces.way u.run (or-right here.had (is_copied c.pieces.way at) (sym c.is_past.ensures ∙ c.if-is_past.false)) in
     let below : low ≤ at + here.count = probed-within p at here.count c.next_stretch-run.ensures.some c.pieces.way u.run run_end in
     let marked : AreMarked before at (low - at) false = λ j less. run_end.unread j (omega (arith, less, below)) in
     let old : Sides = sides c.args.stack.now (g.O.BlockDev.state c.args.out.now) (g.L.Listing.told c.args.listing.now) in
@@ -509,7 +509,7 @@ pieces-preserved-in-Copied g c =
     subst (λ (k : ℕ). CopiesBehind g.D.BlockDev.state g.D.BlockDev.does g.O.BlockDev.state (DeviceDoes g.O.BlockDev.state g.O.BlockDev.does) c.args.pass.device.0 at k c.pieces.stack c.pieces.out c.read_behind.new.stack c.read_behind.new.out c.in-Copied.first) low_is
     (subst (ReadsBehind g.D.BlockDev.state g.D.BlockDev.does g.O.BlockDev.state (DeviceDoes g.O.BlockDev.state g.O.BlockDev.does) c.args.pass.device.0 at c.low_of-low.result c.pieces.stack c.pieces.out c.read_behind.new.stack c.read_behind.new.out) c.in-Copied.is c.in_ok-behind.ensures.ok) in
     let x = called-behind g.D.BlockDev.state g.D.BlockDev.does (DeviceDoes g.O.BlockDev.state g.O.BlockDev.does) before config c.args.pass.device.0 c.args.stack.now c.args.out.now at c.pieces.stack c.pieces.out c.pieces.way u.copied_ahead low g.O.BlockDev.state c.in-Copied.first c.read_behind.new.stack c.read_behind.new.out u.called u.region probed b in
-    rw (c.way_probed.ensures, low_is) (record {
+    rw (c.way_probed-way.ensures, low_is) (record {
       so_far = record {
         calls = u.so_far.calls ++ Write c.in-Copied.first b.bytes true ∷ [];
         under = underway-behind (is_some c.args.noted.now) before (scanned_by c.args.pass) old now at c.pieces.tally c.pieces.noted c.pieces.way u.so_far.calls u.so_far.under low probed marked g.D.BlockDev.state g.D.BlockDev.does g.O.BlockDev.state (DeviceDoes g.O.BlockDev.state g.O.BlockDev.does) c.pieces.out c.read_behind.new.out c.read_behind.new.stack c.in-Copied.first refl b;
@@ -543,7 +543,7 @@ note_end-requires-clause-marks g c =
     let at : ℕ = c.pieces.at in
     let first = first-run c.pieces.ahead c.next_stretch-run.new.ahead c.next_stretch-run.result c.next_stretch-run.ensures.same c.next_stretch-run.ensures.first in
     let inside = ahead-inside (marks_ahead c.args.ahead) c.pieces.at c.sectors-sectors.result c.next_stretch-run.result.count c.next_stretch-run.result.had _ _ (c.requires.fits ∙ sym u.all) u.ahead first u.within in
-    let had : here.had ≡ false = (or-left _ _ (sym c.is_past.ensures ∙ c.if-is_past.false)) in
+    let had : here.had ≡ false = (or-left c.next_stretch-run.result.had (is_copied c.pieces.way c.pieces.at) (sym c.is_past.ensures ∙ c.if-is_past.false)) in
     let run_end : IsUnreadTo p at (at + here.count) =
     unread-run config c.args.pass.device.0 before at here.count c.sectors-sectors.result (marks c.next_stretch-run.new.ahead.rest.now)
     (u.ahead ∙ subst (λ (h : Bool). marks_ahead c.pieces.ahead ≡ replicate here.count h ++ marks c.next_stretch-run.new.ahead.rest.now) had first) (c.requires.fits ∙ sym u.all) u.within
@@ -552,7 +552,7 @@ note_end-requires-clause-marks g c =
     let low_is : c.low_of-low.result ≡ low = c.low_of-low.ensures in
     let turned : is_forward c.pieces.way ≡ false = sym c.is_forward.ensures ∙ c.if-is_forward.false in
     let probed : IsProbedTo p at c.pieces.way low = probed-from p at here.count c.next_stretch-run.ensures.some c.pieces.way turned run_end in
-    let after : at < low = probed-some p at here.count c.next_stretch-run.ensures.some c.pieces.way u.run (or-right _ _ (sym c.is_past.ensures ∙ c.if-is_past.false)) in
+    let after : at < low = probed-some p at here.count c.next_stretch-run.ensures.some c.pieces.way u.run (or-right here.had (is_copied c.pieces.way at) (sym c.is_past.ensures ∙ c.if-is_past.false)) in
     let below : low ≤ at + here.count = probed-within p at here.count c.next_stretch-run.ensures.some c.pieces.way u.run run_end in
     let marked : AreMarked before at (low - at) false = λ j less. run_end.unread j (omega (arith, less, below)) in
     let b = subst (ReadsBehind g.D.BlockDev.state g.D.BlockDev.does g.O.BlockDev.state (DeviceDoes g.O.BlockDev.state g.O.BlockDev.does) c.args.pass.device.0 at c.low_of-low.result c.pieces.stack c.pieces.out c.read_behind.new.stack c.read_behind.new.out) c.in-Lost.is c.in_ok-behind.ensures.ok in
@@ -560,29 +560,29 @@ note_end-requires-clause-marks g c =
     let ends : at + (c.in-Lost.last.before + c.in-Lost.last.count) ≡ low = e.ends ∙ low_is in
     λ x e. note-room _ _ _ _ _ _ _ _ _ _ u.so_far.under (c.in-Lost.last.before + c.in-Lost.last.count) (omega (arith, inside, u.few, below, ends)) x e
 
-pub returns-in_err-note_end-clause-err : goal.returns-in_err-note_end-clause-err
-returns-in_err-note_end-clause-err g c =
+pub returns-in_err-note_end-in-Lost-clause-err : goal.returns-in_err-note_end-in-Lost-clause-err
+returns-in_err-note_end-in-Lost-clause-err g c =
     let u = c.pieces.invariant in
     let before : List Bool = marks_ahead c.args.ahead in
     let old : Sides = sides c.args.stack.now (g.O.BlockDev.state c.args.out.now) (g.L.Listing.told c.args.listing.now) in
     let new : Sides = sides c.read_behind.new.stack (g.O.BlockDev.state c.pieces.out) (g.L.Listing.told c.pieces.listing) in
     let b = subst (ReadsBehind g.D.BlockDev.state g.D.BlockDev.does g.O.BlockDev.state (DeviceDoes g.O.BlockDev.state g.O.BlockDev.does) c.args.pass.device.0 c.pieces.at c.low_of-low.result c.pieces.stack c.pieces.out c.read_behind.new.stack c.read_behind.new.out) c.in-Lost.is c.in_ok-behind.ensures.ok in
-    err-from c.from_residual-in_err-note_end.result _ _ c.from_residual-in_err-note_end.ensures.1
-    (subst (EndsEarly (is_some c.args.noted.now) before (scanned_by c.args.pass) old (sides c.read_behind.new.stack (g.O.BlockDev.state c.read_behind.new.out) (g.L.Listing.told c.pieces.listing))) (sym c.in_err-note_end.ensures.err.0)
-    (rw b.1 (runs-short _ _ _ _ _ _ _ _ _ _ u.so_far.under c.read_behind.new.stack u.unfailed (inr (sym u.noted ∙ c.in_err-note_end.ensures.err.1.0, c.in_err-note_end.ensures.err.1.1)))))
+    err-from c.from_residual-in_err-note_end-in-Lost.result _ _ c.from_residual-in_err-note_end-in-Lost.ensures.1
+    (subst (EndsEarly (is_some c.args.noted.now) before (scanned_by c.args.pass) old (sides c.read_behind.new.stack (g.O.BlockDev.state c.read_behind.new.out) (g.L.Listing.told c.pieces.listing))) (sym c.in_err-note_end-in-Lost.ensures.err.0)
+    (rw b.1 (runs-short _ _ _ _ _ _ _ _ _ _ u.so_far.under c.read_behind.new.stack u.unfailed (inr (sym u.noted ∙ c.in_err-note_end-in-Lost.ensures.err.1.0, c.in_err-note_end-in-Lost.ensures.err.1.1)))))
 
-pub returns-in_err-note_end-clause-stopped : goal.returns-in_err-note_end-clause-stopped
-returns-in_err-note_end-clause-stopped g c =
+pub returns-in_err-note_end-in-Lost-clause-stopped : goal.returns-in_err-note_end-in-Lost-clause-stopped
+returns-in_err-note_end-in-Lost-clause-stopped g c =
     let u = c.pieces.invariant in
     let b = subst (ReadsBehind g.D.BlockDev.state g.D.BlockDev.does g.O.BlockDev.state (DeviceDoes g.O.BlockDev.state g.O.BlockDev.does) c.args.pass.device.0 c.pieces.at c.low_of-low.result c.pieces.stack c.pieces.out c.read_behind.new.stack c.read_behind.new.out) c.in-Lost.is c.in_ok-behind.ensures.ok in
-    err-from c.from_residual-in_err-note_end.result _ NoMemory (subst (λ (e : RecoveryFault). IsErrAnd c.from_residual-in_err-note_end.result (λ f. f ≡ e)) c.in_err-note_end.ensures.err.0 c.from_residual-in_err-note_end.ensures.1)
+    err-from c.from_residual-in_err-note_end-in-Lost.result _ NoMemory (subst (λ (e : RecoveryFault). IsErrAnd c.from_residual-in_err-note_end-in-Lost.result (λ f. f ≡ e)) c.in_err-note_end-in-Lost.ensures.err.0 c.from_residual-in_err-note_end-in-Lost.ensures.1)
     (rw b.1 (hands-part _ _ _ _ _ _ _ _ _ _ _ _ u.so_far c.args.listing.now c.pieces.listing c.read_behind.new.stack))
 
-pub returns-in_err-note_end-clause-called : goal.returns-in_err-note_end-clause-called
-returns-in_err-note_end-clause-called g c =
+pub returns-in_err-note_end-in-Lost-clause-called : goal.returns-in_err-note_end-in-Lost-clause-called
+returns-in_err-note_end-in-Lost-clause-called g c =
     let u = c.pieces.invariant in
     let b = subst (ReadsBehind g.D.BlockDev.state g.D.BlockDev.does g.O.BlockDev.state (DeviceDoes g.O.BlockDev.state g.O.BlockDev.does) c.args.pass.device.0 c.pieces.at c.low_of-low.result c.pieces.stack c.pieces.out c.read_behind.new.stack c.read_behind.new.out) c.in-Lost.is c.in_ok-behind.ensures.ok in
-    let q = err_from_is_err_and c.from_residual-in_err-note_end.result c.from_residual-in_err-note_end.ensures.1 in
+    let q = err_from_is_err_and c.from_residual-in_err-note_end-in-Lost.result c.from_residual-in_err-note_end-in-Lost.ensures.1 in
     rw (q.1, b.1) (inl (c.pieces.at + 0, u.copied_ahead, called-trimmed g.D.BlockDev.state g.D.BlockDev.does (DeviceDoes g.O.BlockDev.state g.O.BlockDev.does) (marks_ahead c.args.ahead) c.args.stack.now.config c.args.pass.device.0 c.args.stack.now c.args.out.now c.pieces.at c.pieces.stack c.pieces.out u.copied_ahead c.low_of-low.result 0 c.read_behind.new.stack c.in-Lost.last u.called b.0))
 
 pub tell_end-requires-clause-few : goal.tell_end-requires-clause-few
@@ -600,7 +600,7 @@ tell_end-requires-clause-room g c =
     let at : ℕ = c.pieces.at in
     let first = first-run c.pieces.ahead c.next_stretch-run.new.ahead c.next_stretch-run.result c.next_stretch-run.ensures.same c.next_stretch-run.ensures.first in
     let inside = ahead-inside (marks_ahead c.args.ahead) c.pieces.at c.sectors-sectors.result c.next_stretch-run.result.count c.next_stretch-run.result.had _ _ (c.requires.fits ∙ sym u.all) u.ahead first u.within in
-    let had : here.had ≡ false = (or-left _ _ (sym c.is_past.ensures ∙ c.if-is_past.false)) in
+    let had : here.had ≡ false = (or-left c.next_stretch-run.result.had (is_copied c.pieces.way c.pieces.at) (sym c.is_past.ensures ∙ c.if-is_past.false)) in
     let run_end : IsUnreadTo p at (at + here.count) =
     unread-run config c.args.pass.device.0 before at here.count c.sectors-sectors.result (marks c.next_stretch-run.new.ahead.rest.now)
     (u.ahead ∙ subst (λ (h : Bool). marks_ahead c.pieces.ahead ≡ replicate here.count h ++ marks c.next_stretch-run.new.ahead.rest.now) had first) (c.requires.fits ∙ sym u.all) u.within
@@ -609,7 +609,7 @@ tell_end-requires-clause-room g c =
     let low_is : c.low_of-low.result ≡ low = c.low_of-low.ensures in
     let turned : is_forward c.pieces.way ≡ false = sym c.is_forward.ensures ∙ c.if-is_forward.false in
     let probed : IsProbedTo p at c.pieces.way low = probed-from p at here.count c.next_stretch-run.ensures.some c.pieces.way turned run_end in
-    let after : at < low = probed-some p at here.count c.next_stretch-run.ensures.some c.pieces.way u.run (or-right _ _ (sym c.is_past.ensures ∙ c.if-is_past.false)) in
+    let after : at < low = probed-some p at here.count c.next_stretch-run.ensures.some c.pieces.way u.run (or-right here.had (is_copied c.pieces.way at) (sym c.is_past.ensures ∙ c.if-is_past.false)) in
     let below : low ≤ at + here.count = probed-within p at here.count c.next_stretch-run.ensures.some c.pieces.way u.run run_end in
     let marked : AreMarked before at (low - at) false = λ j less. run_end.unread j (omega (arith, less, below)) in
     let b = subst (ReadsBehind g.D.BlockDev.state g.D.BlockDev.does g.O.BlockDev.state (DeviceDoes g.O.BlockDev.state g.O.BlockDev.does) c.args.pass.device.0 at c.low_of-low.result c.pieces.stack c.pieces.out c.read_behind.new.stack c.read_behind.new.out) c.in-Lost.is c.in_ok-behind.ensures.ok in
@@ -627,7 +627,7 @@ overflow_add-last g c =
     let at : ℕ = c.pieces.at in
     let first = first-run c.pieces.ahead c.next_stretch-run.new.ahead c.next_stretch-run.result c.next_stretch-run.ensures.same c.next_stretch-run.ensures.first in
     let inside = ahead-inside (marks_ahead c.args.ahead) c.pieces.at c.sectors-sectors.result c.next_stretch-run.result.count c.next_stretch-run.result.had _ _ (c.requires.fits ∙ sym u.all) u.ahead first u.within in
-    let had : here.had ≡ false = (or-left _ _ (sym c.is_past.ensures ∙ c.if-is_past.false)) in
+    let had : here.had ≡ false = (or-left c.next_stretch-run.result.had (is_copied c.pieces.way c.pieces.at) (sym c.is_past.ensures ∙ c.if-is_past.false)) in
     let run_end : IsUnreadTo p at (at + here.count) =
     unread-run config c.args.pass.device.0 before at here.count c.sectors-sectors.result (marks c.next_stretch-run.new.ahead.rest.now)
     (u.ahead ∙ subst (λ (h : Bool). marks_ahead c.pieces.ahead ≡ replicate here.count h ++ marks c.next_stretch-run.new.ahead.rest.now) had first) (c.requires.fits ∙ sym u.all) u.within
@@ -636,7 +636,7 @@ overflow_add-last g c =
     let low_is : c.low_of-low.result ≡ low = c.low_of-low.ensures in
     let turned : is_forward c.pieces.way ≡ false = sym c.is_forward.ensures ∙ c.if-is_forward.false in
     let probed : IsProbedTo p at c.pieces.way low = probed-from p at here.count c.next_stretch-run.ensures.some c.pieces.way turned run_end in
-    let after : at < low = probed-some p at here.count c.next_stretch-run.ensures.some c.pieces.way u.run (or-right _ _ (sym c.is_past.ensures ∙ c.if-is_past.false)) in
+    let after : at < low = probed-some p at here.count c.next_stretch-run.ensures.some c.pieces.way u.run (or-right here.had (is_copied c.pieces.way at) (sym c.is_past.ensures ∙ c.if-is_past.false)) in
     let below : low ≤ at + here.count = probed-within p at here.count c.next_stretch-run.ensures.some c.pieces.way u.run run_end in
     let marked : AreMarked before at (low - at) false = λ j less. run_end.unread j (omega (arith, less, below)) in
     let b = subst (ReadsBehind g.D.BlockDev.state g.D.BlockDev.does g.O.BlockDev.state (DeviceDoes g.O.BlockDev.state g.O.BlockDev.does) c.args.pass.device.0 at c.low_of-low.result c.pieces.stack c.pieces.out c.read_behind.new.stack c.read_behind.new.out) c.in-Lost.is c.in_ok-behind.ensures.ok in
@@ -654,7 +654,7 @@ overflow_add-at-in-Lost g c =
     let at : ℕ = c.pieces.at in
     let first = first-run c.pieces.ahead c.next_stretch-run.new.ahead c.next_stretch-run.result c.next_stretch-run.ensures.same c.next_stretch-run.ensures.first in
     let inside = ahead-inside (marks_ahead c.args.ahead) c.pieces.at c.sectors-sectors.result c.next_stretch-run.result.count c.next_stretch-run.result.had _ _ (c.requires.fits ∙ sym u.all) u.ahead first u.within in
-    let had : here.had ≡ false = (or-left _ _ (sym c.is_past.ensures ∙ c.if-is_past.false)) in
+    let had : here.had ≡ false = (or-left c.next_stretch-run.result.had (is_copied c.pieces.way c.pieces.at) (sym c.is_past.ensures ∙ c.if-is_past.false)) in
     let run_end : IsUnreadTo p at (at + here.count) =
     unread-run config c.args.pass.device.0 before at here.count c.sectors-sectors.result (marks c.next_stretch-run.new.ahead.rest.now)
     (u.ahead ∙ subst (λ (h : Bool). marks_ahead c.pieces.ahead ≡ replicate here.count h ++ marks c.next_stretch-run.new.ahead.rest.now) had first) (c.requires.fits ∙ sym u.all) u.within
@@ -663,7 +663,7 @@ overflow_add-at-in-Lost g c =
     let low_is : c.low_of-low.result ≡ low = c.low_of-low.ensures in
     let turned : is_forward c.pieces.way ≡ false = sym c.is_forward.ensures ∙ c.if-is_forward.false in
     let probed : IsProbedTo p at c.pieces.way low = probed-from p at here.count c.next_stretch-run.ensures.some c.pieces.way turned run_end in
-    let after : at < low = probed-some p at here.count c.next_stretch-run.ensures.some c.pieces.way u.run (or-right _ _ (sym c.is_past.ensures ∙ c.if-is_past.false)) in
+    let after : at < low = probed-some p at here.count c.next_stretch-run.ensures.some c.pieces.way u.run (or-right here.had (is_copied c.pieces.way at) (sym c.is_past.ensures ∙ c.if-is_past.false)) in
     let below : low ≤ at + here.count = probed-within p at here.count c.next_stretch-run.ensures.some c.pieces.way u.run run_end in
     let marked : AreMarked before at (low - at) false = λ j less. run_end.unread j (omega (arith, less, below)) in
     let b = subst (ReadsBehind g.D.BlockDev.state g.D.BlockDev.does g.O.BlockDev.state (DeviceDoes g.O.BlockDev.state g.O.BlockDev.does) c.args.pass.device.0 at c.low_of-low.result c.pieces.stack c.pieces.out c.read_behind.new.stack c.read_behind.new.out) c.in-Lost.is c.in_ok-behind.ensures.ok in
@@ -681,7 +681,7 @@ overflow_add-at-in-Lost-2 g c =
     let at : ℕ = c.pieces.at in
     let first = first-run c.pieces.ahead c.next_stretch-run.new.ahead c.next_stretch-run.result c.next_stretch-run.ensures.same c.next_stretch-run.ensures.first in
     let inside = ahead-inside (marks_ahead c.args.ahead) c.pieces.at c.sectors-sectors.result c.next_stretch-run.result.count c.next_stretch-run.result.had _ _ (c.requires.fits ∙ sym u.all) u.ahead first u.within in
-    let had : here.had ≡ false = (or-left _ _ (sym c.is_past.ensures ∙ c.if-is_past.false)) in
+    let had : here.had ≡ false = (or-left c.next_stretch-run.result.had (is_copied c.pieces.way c.pieces.at) (sym c.is_past.ensures ∙ c.if-is_past.false)) in
     let run_end : IsUnreadTo p at (at + here.count) =
     unread-run config c.args.pass.device.0 before at here.count c.sectors-sectors.result (marks c.next_stretch-run.new.ahead.rest.now)
     (u.ahead ∙ subst (λ (h : Bool). marks_ahead c.pieces.ahead ≡ replicate here.count h ++ marks c.next_stretch-run.new.ahead.rest.now) had first) (c.requires.fits ∙ sym u.all) u.within
@@ -690,7 +690,7 @@ overflow_add-at-in-Lost-2 g c =
     let low_is : c.low_of-low.result ≡ low = c.low_of-low.ensures in
     let turned : is_forward c.pieces.way ≡ false = sym c.is_forward.ensures ∙ c.if-is_forward.false in
     let probed : IsProbedTo p at c.pieces.way low = probed-from p at here.count c.next_stretch-run.ensures.some c.pieces.way turned run_end in
-    let after : at < low = probed-some p at here.count c.next_stretch-run.ensures.some c.pieces.way u.run (or-right _ _ (sym c.is_past.ensures ∙ c.if-is_past.false)) in
+    let after : at < low = probed-some p at here.count c.next_stretch-run.ensures.some c.pieces.way u.run (or-right here.had (is_copied c.pieces.way at) (sym c.is_past.ensures ∙ c.if-is_past.false)) in
     let below : low ≤ at + here.count = probed-within p at here.count c.next_stretch-run.ensures.some c.pieces.way u.run run_end in
     let marked : AreMarked before at (low - at) false = λ j less. run_end.unread j (omega (arith, less, below)) in
     let b = subst (ReadsBehind g.D.BlockDev.state g.D.BlockDev.does g.O.BlockDev.state (DeviceDoes g.O.BlockDev.state g.O.BlockDev.does) c.args.pass.device.0 at c.low_of-low.result c.pieces.stack c.pieces.out c.read_behind.new.stack c.read_behind.new.out) c.in-Lost.is c.in_ok-behind.ensures.ok in
@@ -708,7 +708,7 @@ pass-requires-in-Lost g c =
     let at : ℕ = c.pieces.at in
     let first = first-run c.pieces.ahead c.next_stretch-run.new.ahead c.next_stretch-run.result c.next_stretch-run.ensures.same c.next_stretch-run.ensures.first in
     let inside = ahead-inside (marks_ahead c.args.ahead) c.pieces.at c.sectors-sectors.result c.next_stretch-run.result.count c.next_stretch-run.result.had _ _ (c.requires.fits ∙ sym u.all) u.ahead first u.within in
-    let had : here.had ≡ false = (or-left _ _ (sym c.is_past.ensures ∙ c.if-is_past.false)) in
+    let had : here.had ≡ false = (or-left c.next_stretch-run.result.had (is_copied c.pieces.way c.pieces.at) (sym c.is_past.ensures ∙ c.if-is_past.false)) in
     let run_end : IsUnreadTo p at (at + here.count) =
     unread-run config c.args.pass.device.0 before at here.count c.sectors-sectors.result (marks c.next_stretch-run.new.ahead.rest.now)
     (u.ahead ∙ subst (λ (h : Bool). marks_ahead c.pieces.ahead ≡ replicate here.count h ++ marks c.next_stretch-run.new.ahead.rest.now) had first) (c.requires.fits ∙ sym u.all) u.within
@@ -717,7 +717,7 @@ pass-requires-in-Lost g c =
     let low_is : c.low_of-low.result ≡ low = c.low_of-low.ensures in
     let turned : is_forward c.pieces.way ≡ false = sym c.is_forward.ensures ∙ c.if-is_forward.false in
     let probed : IsProbedTo p at c.pieces.way low = probed-from p at here.count c.next_stretch-run.ensures.some c.pieces.way turned run_end in
-    let after : at < low = probed-some p at here.count c.next_stretch-run.ensures.some c.pieces.way u.run (or-right _ _ (sym c.is_past.ensures ∙ c.if-is_past.false)) in
+    let after : at < low = probed-some p at here.count c.next_stretch-run.ensures.some c.pieces.way u.run (or-right here.had (is_copied c.pieces.way at) (sym c.is_past.ensures ∙ c.if-is_past.false)) in
     let below : low ≤ at + here.count = probed-within p at here.count c.next_stretch-run.ensures.some c.pieces.way u.run run_end in
     let marked : AreMarked before at (low - at) false = λ j less. run_end.unread j (omega (arith, less, below)) in
     let b = subst (ReadsBehind g.D.BlockDev.state g.D.BlockDev.does g.O.BlockDev.state (DeviceDoes g.O.BlockDev.state g.O.BlockDev.does) c.args.pass.device.0 at c.low_of-low.result c.pieces.stack c.pieces.out c.read_behind.new.stack c.read_behind.new.out) c.in-Lost.is c.in_ok-behind.ensures.ok in
@@ -725,8 +725,8 @@ pass-requires-in-Lost g c =
     let ends : at + (c.in-Lost.last.before + c.in-Lost.last.count) ≡ low = e.ends ∙ low_is in
     subst (λ (r : Run). (c.in-Lost.last.before + c.in-Lost.last.count) ≤ r.count) c.next_stretch-run.ensures.first (omega (arith, below, ends))
 
-pub pieces-preserved-in-Lost : goal.pieces-preserved-in-Lost
-pieces-preserved-in-Lost g c =
+pub pieces-preserved : goal.pieces-preserved
+pieces-preserved g c =
     let u = c.pieces.invariant in
     let before : List Bool = marks_ahead c.args.ahead in
     let config : Configuration = c.args.stack.now.config in
@@ -735,7 +735,7 @@ pieces-preserved-in-Lost g c =
     let at : ℕ = c.pieces.at in
     let first = first-run c.pieces.ahead c.next_stretch-run.new.ahead c.next_stretch-run.result c.next_stretch-run.ensures.same c.next_stretch-run.ensures.first in
     let inside = ahead-inside (marks_ahead c.args.ahead) c.pieces.at c.sectors-sectors.result c.next_stretch-run.result.count c.next_stretch-run.result.had _ _ (c.requires.fits ∙ sym u.all) u.ahead first u.within in
-    let had : here.had ≡ false = (or-left _ _ (sym c.is_past.ensures ∙ c.if-is_past.false)) in
+    let had : here.had ≡ false = (or-left c.next_stretch-run.result.had (is_copied c.pieces.way c.pieces.at) (sym c.is_past.ensures ∙ c.if-is_past.false)) in
     let run_end : IsUnreadTo p at (at + here.count) =
     unread-run config c.args.pass.device.0 before at here.count c.sectors-sectors.result (marks c.next_stretch-run.new.ahead.rest.now)
     (u.ahead ∙ subst (λ (h : Bool). marks_ahead c.pieces.ahead ≡ replicate here.count h ++ marks c.next_stretch-run.new.ahead.rest.now) had first) (c.requires.fits ∙ sym u.all) u.within
@@ -744,7 +744,7 @@ pieces-preserved-in-Lost g c =
     let low_is : c.low_of-low.result ≡ low = c.low_of-low.ensures in
     let turned : is_forward c.pieces.way ≡ false = sym c.is_forward.ensures ∙ c.if-is_forward.false in
     let probed : IsProbedTo p at c.pieces.way low = probed-from p at here.count c.next_stretch-run.ensures.some c.pieces.way turned run_end in
-    let after : at < low = probed-some p at here.count c.next_stretch-run.ensures.some c.pieces.way u.run (or-right _ _ (sym c.is_past.ensures ∙ c.if-is_past.false)) in
+    let after : at < low = probed-some p at here.count c.next_stretch-run.ensures.some c.pieces.way u.run (or-right here.had (is_copied c.pieces.way at) (sym c.is_past.ensures ∙ c.if-is_past.false)) in
     let below : low ≤ at + here.count = probed-within p at here.count c.next_stretch-run.ensures.some c.pieces.way u.run run_end in
     let marked : AreMarked before at (low - at) false = λ j less. run_end.unread j (omega (arith, less, below)) in
     let old : Sides = sides c.args.stack.now (g.O.BlockDev.state c.args.out.now) (g.L.Listing.told c.args.listing.now) in
@@ -754,12 +754,12 @@ pieces-preserved-in-Lost g c =
     let ends : at + (c.in-Lost.last.before + c.in-Lost.last.count) ≡ low = e.ends ∙ low_is in
     let count : ℕ = c.in-Lost.last.before + c.in-Lost.last.count in
     let skipped : AreMarked before at count false = λ j less. run_end.unread j (omega (arith, less, ends, below)) in
-    rw (c.way_trimmed.ensures, b.1) (record {
+    rw (c.way_trimmed-way.ensures, b.1) (record {
       so_far = record {
         calls = u.so_far.calls;
         under = subst (λ (l : Tally). IsUnderway (is_some c.args.noted.now) before (scanned_by c.args.pass) old (sides c.read_behind.new.stack (g.O.BlockDev.state c.pieces.out) (g.L.Listing.told c.tell_end.new.listing)) (at + count) l c.note_end.new.noted (way_trimmed c.pieces.way) u.so_far.calls) (sym c.tell_end.ensures.tallied)
             (underway-trimmed (is_some c.args.noted.now) before (scanned_by c.args.pass) old now at c.pieces.tally c.pieces.noted c.pieces.way u.so_far.calls u.so_far.under c.in-Lost.last c.read_behind.new.stack (g.L.Listing.told c.tell_end.new.listing) c.note_end.new.noted
-            (subst (λ (k : ℕ). IsProbedTo p at c.pieces.way k) (sym ends) probed) e.some e.answered e.may skipped c.in_ok-note_end.ensures.ok c.tell_end.ensures.told);
+            (subst (λ (k : ℕ). IsProbedTo p at c.pieces.way k) (sym ends) probed) e.some e.answered e.may skipped c.in_ok-note_end-in-Lost.ensures.ok c.tell_end.ensures.told);
         did = u.so_far.did;
       };
       run = subst (λ (k : ℕ). IsWayRun p k (way_trimmed c.pieces.way)) (sym ends) (run-trimmed p at low c.pieces.way u.run probed (omega (arith, after)));
@@ -772,5 +772,22 @@ pieces-preserved-in-Lost g c =
       all = u.all;
       few = u.few;
       unfailed = u.unfailed;
-      noted = notes-some marks c.pieces.noted c.note_end.new.noted _ c.in_ok-note_end.ensures.ok.0 ∙ u.noted;
+      noted = notes-some marks c.pieces.noted c.note_end.new.noted _ c.in_ok-note_end-in-Lost.ensures.ok.0 ∙ u.noted;
     })
+
+pub pieces-smaller-then-is_past : goal.pieces-smaller-then-is_past
+pieces-smaller-then-is_past g c =
+    let u = c.pieces.invariant in
+    let before : List Bool = marks_ahead c.args.ahead in
+    let config : Configuration = c.args.stack.now.config in
+    let p = pass_over config c.args.pass.device.0 before in
+    let here : Run = c.next_stretch-run.result in
+    let first = first-run c.pieces.ahead c.next_stretch-run.new.ahead c.next_stretch-run.result c.next_stretch-run.ensures.same c.next_stretch-run.ensures.first in
+    let inside = ahead-inside (marks_ahead c.args.ahead) c.pieces.at c.sectors-sectors.result c.next_stretch-run.result.count c.next_stretch-run.result.had _ _ (c.requires.fits ∙ sym u.all) u.ahead first u.within in
+    let marked : AreMarked before c.pieces.at here.count here.had = marked-next before c.pieces.at here.count here.count here.had _ (omega arith) (u.ahead ∙ first) in
+    let run_end : here.had ≡ false → IsUnreadTo p c.pieces.at (c.pieces.at + here.count) = λ is.
+    unread-run config c.args.pass.device.0 before c.pieces.at here.count c.sectors-sectors.result (marks c.next_stretch-run.new.ahead.rest.now)
+    (u.ahead ∙ subst (λ (h : Bool). marks_ahead c.pieces.ahead ≡ replicate here.count h ++ marks c.next_stretch-run.new.ahead.rest.now) is first) (c.requires.fits ∙ sym u.all) u.within
+    inside u.all (subst (λ (h : Bool). BeginsOtherwise h (marks c.next_stretch-run.new.ahead.rest.now)) is c.next_stretch-run.ensures.longest) in
+    let past = is-past p c.pieces.at here.count c.pieces.way here.had c.next_stretch-run.ensures.some marked (sym c.is_past.ensures ∙ c.if-is_past.true) u.run run_end in
+    rw c.way_past-way.ensures (past-smaller p (scanned_by c.args.pass) c.pieces.at here.count c.sectors-sectors.result c.pieces.way c.next_stretch-run.ensures.some inside past)

@@ -14,7 +14,7 @@ use Rattle.rescue_map.specs.declared.map.Run.{Run}
 use Rattle.stack_recovery.specs.declared.fault.RecoveryFault.{RecoveryFault}
 use Rattle.stack_recovery.specs.declared.fault.RecoveryFault.TheVariants.{NoMemory, Output}
 use Rattle.stack_recovery.specs.FirstPasses.{skipping_of, transfer}
-use Rattle.stack_recovery.specs.LeafReads.{CopiesLeaves, no_piece, sectors_had}
+use Rattle.stack_recovery.specs.LeafReads.{CopiesLeaves, ahead, no_piece, sectors_had}
 use Rattle.stack_recovery.specs.PassPieces.{IsNextPiece, pass_over}
 use Rattle.stack_recovery.specs.Pieces.{EndsAligned}
 use Rattle.stack_recovery.specs.Skims.{IsSkimFound}
@@ -209,7 +209,7 @@ pieces-preserved-in-Ok g c =
       so_far = subst (λ (m : ℕ). IsSkimming g.O.BlockDev.state (DeviceDoes g.O.BlockDev.state g.O.BlockDev.does) (skipping_of c.args.pass) before c.args.pass.device.0 (transfer c.args.stack.now c.args.out.now) (transfer c.read_bytes.new.self c.write.new.self) (c.pieces.at + m) c.mark-in-Ok.new.map c.min-skip.result) (sym same)
           (rw c.min-skip.ensures (skimming-had _ _ _ _ _ _ _ _ _ _ u.so_far n bytes c.read_bytes.new.self k _ c.write.new.self c.mark-in-Ok.new.map next piece marked (rw same at c.in_ok-mark-in-Ok.ensures.ok) (rw same at c.in_ok-mark-in-Ok.ensures.lost) count
           c.in_ok-write-in-Ok.ensures.moved c.in_ok-write-in-Ok.ensures.image c.in_ok-write-in-Ok.ensures.call));
-      called = copies-had g.D.BlockDev.state g.D.BlockDev.does (DeviceDoes g.O.BlockDev.state g.O.BlockDev.does) before c.args.pass.device.0 c.args.stack.now c.args.out.now c.pieces.at c.pieces.stack c.read_bytes.new.self c.pieces.out u.called (length (take (n * 512) c.pieces.room) / 512) c.from-count.result bytes c.write.new.self (number ∙ sym same) c.in-Ok.ensures.given c.in_ok-write-in-Ok.ensures.call;
+      called = copies-had g.D.BlockDev.state g.D.BlockDev.does (DeviceDoes g.O.BlockDev.state g.O.BlockDev.does) before c.args.pass.device.0 c.args.stack.now c.args.out.now c.pieces.at c.pieces.stack c.read_bytes.new.self c.pieces.out (ahead 0 0) u.called (length (take (n * 512) c.pieces.room) / 512) c.from-count.result bytes c.write.new.self (number ∙ sym same) c.in-Ok.ensures.given c.in_ok-write-in-Ok.ensures.call;
       ahead = ahead-next before c.pieces.at c.from-count.result _ _ _ (u.ahead ∙ sym c.next_stretch-run.ensures.same) c.pass-in-Ok.ensures.marks;
       config = c.in-Ok.ensures.any.config ∙ u.config;
       within = omega (arith, inside, same, c.piece_at-piece.ensures.inside);
@@ -288,7 +288,7 @@ pieces-preserved g c =
     (subst (λ (x : Configuration). EndsAligned x c.args.pass.device.0 c.pieces.at (c.pieces.at + here.count) 128 n) (c.config-else-run.ensures.value ∙ u.config) c.piece_at-piece.ensures.ends) skipped in
     record {
       so_far = rw (same, c.longer_skip-skip.ensures) (skimming-skipped _ _ _ _ _ _ _ _ _ _ u.so_far n skip c.in-Err.fault c.read_bytes.new.self c.leave.new.map found piece marked ((rw same at c.in_ok-leave-in-Err.ensures.ok) ∙ append_assoc (marks c.pieces.map) (replicate n false) (replicate skip false)) ((rw same at c.in_ok-leave-in-Err.ensures.failed) ∙ append_assoc (losts c.pieces.map) (replicate n true) (replicate skip false)));
-      called = copies-failed g.D.BlockDev.state g.D.BlockDev.does (DeviceDoes g.O.BlockDev.state g.O.BlockDev.does) before c.args.pass.device.0 c.args.stack.now c.args.out.now c.pieces.at c.pieces.stack c.read_bytes.new.self c.pieces.out u.called (length (take (n * 512) c.pieces.room) / 512) (c.from-count.result + skip) c.in-Err.fault c.in-Err.ensures.given;
+      called = copies-failed g.D.BlockDev.state g.D.BlockDev.does (DeviceDoes g.O.BlockDev.state g.O.BlockDev.does) before c.args.pass.device.0 c.args.stack.now c.args.out.now c.pieces.at c.pieces.stack c.read_bytes.new.self c.pieces.out (ahead 0 0) u.called (length (take (n * 512) c.pieces.room) / 512) (c.from-count.result + skip) c.in-Err.fault c.in-Err.ensures.given;
       ahead = ahead-next before c.pieces.at (c.from-count.result + skip) _ _ _ (u.ahead ∙ sym c.next_stretch-run.ensures.same) c.pass-in-Err.ensures.marks;
       config = c.in-Err.ensures.any.config ∙ u.config;
       within = omega (arith, inside, same, skipped, c.piece_at-piece.ensures.inside);
@@ -307,39 +307,41 @@ returns-clause-handed g c = hands-skims _ _ _ _ _ _ _ _ _ _ c.pieces.invariant.s
 
 pub returns-clause-called : goal.returns-clause-called
 returns-clause-called g c =
-    let u = c.pieces.invariant in
-    subst (λ (n : ℕ). CopiesLeaves g.D.BlockDev.state g.D.BlockDev.does (DeviceDoes g.O.BlockDev.state g.O.BlockDev.does) (marks_ahead c.args.ahead) c.args.pass.device.0 c.args.stack.now c.args.out.now n c.pieces.stack c.pieces.out)
-    (u.so_far.here ∙ sym (ap (λ (l : List Bool). length l) u.so_far.noted)) u.called
+    let u = c.pieces.invariant in (
+      ahead 0 0,
+      subst (λ (n : ℕ). CopiesLeaves g.D.BlockDev.state g.D.BlockDev.does (DeviceDoes g.O.BlockDev.state g.O.BlockDev.does) (marks_ahead c.args.ahead) c.args.pass.device.0 c.args.stack.now c.args.out.now n (ahead 0 0) c.pieces.stack c.pieces.out)
+          (u.so_far.here ∙ sym (ap (λ (l : List Bool). length l) u.so_far.noted)) u.called,
+    )
 
 pub returns-in_err-mark-clause-called : goal.returns-in_err-mark-clause-called
 returns-in_err-mark-clause-called g c =
     let p = err_from_is_err_and c.from_residual.result c.from_residual.ensures.1 in
-    rw p.1 (inl (c.pieces.at, c.pieces.invariant.called))
+    rw p.1 (inl (c.pieces.at, ahead 0 0, c.pieces.invariant.called))
 
 pub returns-in_err-mark-in-Ok-clause-called : goal.returns-in_err-mark-in-Ok-clause-called
 returns-in_err-mark-in-Ok-clause-called g c =
     let u = c.pieces.invariant in
     let count : ℕ = length (take (c.piece_at-piece.result.count * 512) c.pieces.room) / 512 in
     let p = err_from_is_err_and c.from_residual-in_err-mark-in-Ok.result c.from_residual-in_err-mark-in-Ok.ensures.1 in
-    rw p.1 (inr (record { at = c.pieces.at; left = c.pieces.stack; out = c.pieces.out; count = count; bytes = c.read_bytes.new.out; so_far = u.called; given = c.in-Ok.ensures.given; rest = inl refl }))
+    rw p.1 (inr (record { at = c.pieces.at; copied = ahead 0 0; left = c.pieces.stack; out = c.pieces.out; first = c.pieces.at; count = count; bytes = c.read_bytes.new.out; so_far = u.called; given = c.in-Ok.ensures.given; rest = inl refl }))
 
 pub returns-in_err-write-in-Ok-clause-called : goal.returns-in_err-write-in-Ok-clause-called
 returns-in_err-write-in-Ok-clause-called g c =
     let u = c.pieces.invariant in
     let count : ℕ = length (take (c.piece_at-piece.result.count * 512) c.pieces.room) / 512 in
     let p = err_from_is_err_and c.from_residual-in_err-write-in-Ok.result c.from_residual-in_err-write-in-Ok.ensures.1 in
-    rw p.1 (inr (record { at = c.pieces.at; left = c.pieces.stack; out = c.pieces.out; count = count; bytes = c.read_bytes.new.out; so_far = u.called; given = c.in-Ok.ensures.given; rest = inr c.in_err-write-in-Ok.ensures.call }))
+    rw p.1 (inr (record { at = c.pieces.at; copied = ahead 0 0; left = c.pieces.stack; out = c.pieces.out; first = c.pieces.at; count = count; bytes = c.read_bytes.new.out; so_far = u.called; given = c.in-Ok.ensures.given; rest = inr c.in_err-write-in-Ok.ensures.call }))
 
 pub returns-in_err-check_memory-in-Err-clause-called : goal.returns-in_err-check_memory-in-Err-clause-called
 returns-in_err-check_memory-in-Err-clause-called g c =
     let u = c.pieces.invariant in
     let count : ℕ = length (take (c.piece_at-piece.result.count * 512) c.pieces.room) / 512 in
     let p = err_from_is_err_and c.from_residual-in_err-check_memory-in-Err.result c.from_residual-in_err-check_memory-in-Err.ensures.1 in
-    rw p.1 (inl (c.pieces.at, copies-again g.D.BlockDev.state g.D.BlockDev.does (DeviceDoes g.O.BlockDev.state g.O.BlockDev.does) (marks_ahead c.args.ahead) c.args.pass.device.0 c.args.stack.now c.args.out.now c.pieces.at c.pieces.stack c.read_bytes.new.self c.pieces.out u.called count c.in-Err.fault c.in-Err.ensures.given))
+    rw p.1 (inl (c.pieces.at, ahead 0 0, copies-again g.D.BlockDev.state g.D.BlockDev.does (DeviceDoes g.O.BlockDev.state g.O.BlockDev.does) (marks_ahead c.args.ahead) c.args.pass.device.0 c.args.stack.now c.args.out.now c.pieces.at c.pieces.stack c.read_bytes.new.self c.pieces.out (ahead 0 0) u.called count c.in-Err.fault c.in-Err.ensures.given))
 
 pub returns-in_err-leave-in-Err-clause-called : goal.returns-in_err-leave-in-Err-clause-called
 returns-in_err-leave-in-Err-clause-called g c =
     let u = c.pieces.invariant in
     let count : ℕ = length (take (c.piece_at-piece.result.count * 512) c.pieces.room) / 512 in
     let p = err_from_is_err_and c.from_residual-in_err-leave-in-Err.result c.from_residual-in_err-leave-in-Err.ensures.1 in
-    rw p.1 (inl (c.pieces.at, copies-again g.D.BlockDev.state g.D.BlockDev.does (DeviceDoes g.O.BlockDev.state g.O.BlockDev.does) (marks_ahead c.args.ahead) c.args.pass.device.0 c.args.stack.now c.args.out.now c.pieces.at c.pieces.stack c.read_bytes.new.self c.pieces.out u.called count c.in-Err.fault c.in-Err.ensures.given))
+    rw p.1 (inl (c.pieces.at, ahead 0 0, copies-again g.D.BlockDev.state g.D.BlockDev.does (DeviceDoes g.O.BlockDev.state g.O.BlockDev.does) (marks_ahead c.args.ahead) c.args.pass.device.0 c.args.stack.now c.args.out.now c.pieces.at c.pieces.stack c.read_bytes.new.self c.pieces.out (ahead 0 0) u.called count c.in-Err.fault c.in-Err.ensures.given))

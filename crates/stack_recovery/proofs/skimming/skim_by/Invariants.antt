@@ -3,7 +3,7 @@ use Rattle.block_device.specs.Call.{DeviceDoes}
 use Rattle.stack_rules.specs.Names.{mapped, size}
 use Rattle.rescue_map.specs.Aheads.{marks_ahead}
 use Rattle.stack_recovery.specs.FirstPasses.{skipping_of, transfer}
-use Rattle.stack_recovery.specs.LeafReads.{CopiesLeaves}
+use Rattle.stack_recovery.specs.LeafReads.{CopiesLeaves, ahead}
 use Rattle.stack_recovery.proofs.SkimLemmas.{IsSkimming}
 use Rattle.stack_recovery.proofs.skimming.skim_by.Given as goal
 
@@ -11,7 +11,7 @@ use Rattle.stack_recovery.proofs.skimming.skim_by.Given as goal
 abbrev pub invariant-pieces : goal.invariant-pieces
 invariant-pieces g l = record {
   so_far : IsSkimming g.O.BlockDev.state (DeviceDoes g.O.BlockDev.state g.O.BlockDev.does) (skipping_of l.fn.pass) (marks_ahead l.fn.ahead) l.fn.pass.device.0 (transfer l.fn.stack l.fn.out) (transfer l.stack l.out) l.at l.map l.skip;
-  called : CopiesLeaves g.D.BlockDev.state g.D.BlockDev.does (DeviceDoes g.O.BlockDev.state g.O.BlockDev.does) (marks_ahead l.fn.ahead) l.fn.pass.device.0 l.fn.stack l.fn.out l.at l.stack l.out;
+  called : CopiesLeaves g.D.BlockDev.state g.D.BlockDev.does (DeviceDoes g.O.BlockDev.state g.O.BlockDev.does) (marks_ahead l.fn.ahead) l.fn.pass.device.0 l.fn.stack l.fn.out l.at (ahead 0 0) l.stack l.out;
   ahead : drop l.at (marks_ahead l.fn.ahead) ≡ marks_ahead l.ahead;
   config : l.stack.config ≡ l.fn.stack.config;
   within : l.at ≤ l.sectors;
