@@ -16,6 +16,7 @@ use Rattle.stack_recovery.specs.Listings.{KeepsMore, Listed}
 use Rattle.stack_recovery.specs.LostRuns.{LostRun, is_same_loss}
 use Rattle.stack_recovery.specs.Recoveries.{Sides}
 use Rattle.stack_recovery.specs.Surveys.{SectorState, all_states}
+use Rattle.stack_recovery.proofs.lemmas.CopiedMeantLemmas.{meant_at}
 use Rattle.stack_recovery.proofs.lemmas.MeantLemmas.{IsLeft, same-left}
 use Rattle.scan_commands.specs.MapFiles.{MapPathRecord}
 use Rattle.scan_commands.specs.declared.phase.Phase.{Phase}
@@ -24,7 +25,7 @@ use Rattle.scan_commands.specs.Turns.{IsSkipped, IsTurn, Kept, Progressed, Turns
 use Rattle.scan_commands.proofs.FoundRunLemmas.{reads-later}
 use Rattle.scan_commands.proofs.LostMarkLemmas.{spliced-inside, spliced-size}
 use Rattle.scan_commands.proofs.TurnLemmas.{is_large}
-use Rattle.scan_commands.proofs.MeantTurnLemmas.{IsSure, LargeStep, SingleStep, large-takes, large-turn, large_other, meant_at, single-turn, single_other, turn-end, turn-left}
+use Rattle.scan_commands.proofs.MeantTurnLemmas.{IsSure, LargeStep, SingleStep, large-takes, large-turn, large_other, single-turn, single_other, turn-end, turn-left}
 
 -- ---- a turn that is passed over
 
@@ -141,20 +142,20 @@ module _ {S : Type 0} (k : Kept S) (phase : Phase) (first now : Progressed S) (n
       keeps-none None = tt
       keeps-none (Some runs) = sym (append-nil runs)
 
-  single-by : is_large phase ≡ false → first.turned ≡ 0 → OneTurn k phase first now → FindsEach
-  single-by single unturned (no_turn e) =
+  single-by : is_large phase ≡ false → OneTurn k phase first now → FindsEach
+  single-by single (no_turn e) =
       finds-none (sym (ap (λ (p : Progressed S). p.sides) e)) (λ s low. absurd (omega (arith, low, end, start, ap (λ (p : Progressed S). p.at) e)))
-  single-by single unturned (one_turn t) =
+  single-by single (one_turn t) =
       let left = reads-later phase first.skip (asked_marks phase t.span k.sectors first.runs) (scan_from k first) first.sides t.made t.left single t.reads in
       let printed : now.sides.printed ≡ t.left.printed = ap (λ (x : Sides). x.printed) t.on_medium in
       record {
         states = all_states left.1.reads;
-        each = λ s low. single-turn k phase first now t none start size sure single unturned left.0 left.1 s low;
+        each = λ s low. single-turn k phase first now t none start size sure single left.0 left.1 s low;
         told = λ ok. subst (λ (l : Listed). KeepsMore first.sides.printed.runs l.runs (runs_of is_same_loss 0 (all_states left.1.reads))) (sym printed) (left.1.printed.listed (sym (ap (λ (l : Listed). l.failed) printed) ∙ ok));
       }
-  single-by single unturned (one_skip t) =
+  single-by single (one_skip t) =
       finds-none (sym (skip-sides k phase first now t none start size))
       (λ s low. single_other (skip-other k phase first now t none start size s low) (ap (λ (r : List Run). get_or (statuses r) s Untried) (skip-runs k phase first now t none start size)) refl)
 
-  pub single-pass : is_large phase ≡ false → first.turned ≡ 0 → Turns k phase first now → FindsEach
-  single-pass single unturned turns = single-by single unturned (one-turn k phase first none start size turns)
+  pub single-pass : is_large phase ≡ false → Turns k phase first now → FindsEach
+  single-pass single turns = single-by single (one-turn k phase first none start size turns)

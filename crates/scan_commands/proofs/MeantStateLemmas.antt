@@ -27,6 +27,7 @@ use Rattle.stack_recovery.specs.Listings.{Listed}
 use Rattle.stack_recovery.specs.Recoveries.{Sides}
 use Rattle.stack_recovery.specs.Surveys.{SectorState}
 use Rattle.stack_recovery.proofs.lemmas.JoinLemmas.{state-runs}
+use Rattle.stack_recovery.proofs.lemmas.CopiedMeantLemmas.{meant_at}
 use Rattle.stack_recovery.proofs.lemmas.MeantLemmas.{IsLeft, left-state, meant-get, same-left, then-left}
 use Rattle.scan_commands.specs.declared.phase.Phase.{Phase}
 use Rattle.scan_commands.specs.declared.phase.Phase.TheVariants.{Retry, Scrape, Skim, Sweep, Trim}
@@ -40,7 +41,7 @@ use Rattle.scan_commands.proofs.LostSectorLemmas.{joined-at}
 use Rattle.scan_commands.proofs.MapFileLemmas.{unread-size}
 use Rattle.scan_commands.proofs.TurnLemmas.{is_large}
 use Rattle.scan_commands.proofs.MeantPassLemmas.{large-pass, pass-left, single-pass}
-use Rattle.scan_commands.proofs.MeantTurnLemmas.{LargeStep, SingleStep, large_failed, large_had, large_left, large_other, meant_at, single_had, single_lost, single_other, single_unscraped}
+use Rattle.scan_commands.proofs.MeantTurnLemmas.{LargeStep, SingleStep, large_failed, large_had, large_left, large_other, single_had, single_lost, single_other, single_unscraped}
 
 -- ---- the status of a sector after each pass
 
@@ -189,7 +190,7 @@ module _ {S : Type 0} (k : Kept S) (w : StackRecord) (none : k.file ≡ None) (s
   single-silent : (n : ℕ) (old new : AfterTurns S) (p : IsSilentTurns k n old new) → IsAfter old → (s : ℕ) → s < k.sectors → (known : SectorState) → AfterSteps n (status_in old s) (meant s) known → AfterScrape (status_in new s) (meant s)
   single-silent n old new p a s low known was =
       let phase = phase_after k.scan.no_scrape n in
-      let f = single-pass k phase (pass_from phase k.sectors old p.0) _ none refl refl a.all a.left.sure (single-after k.scan.no_scrape n scrapes) refl p.4 in
+      let f = single-pass k phase (pass_from phase k.sectors old p.0) _ none refl refl a.all a.left.sure (single-after k.scan.no_scrape n scrapes) p.4 in
       let found = get_or f.states s None in
       step-after k.scan.no_scrape n (status_in old s) (status_in new s) (meant s) known found scrapes was
       (subst (λ (x : SectorState). SingleStep phase (status_in old s) (status_in new s) x found) (left-state d w old.left.stack s a.left) (f.each s low))
@@ -216,7 +217,7 @@ module _ {S : Type 0} (k : Kept S) (w : StackRecord) (none : k.file ≡ None) (s
 
   trim-each : (old new : AfterTurns S) (known : List LostRun) → KeepsTurns k Trim old new known → IsAfter old → (s : ℕ) → s < k.sectors → AfterSweep (status_in old s) (meant s) → AfterTrim (status_in new s) (meant s) (state_in known s)
   trim-each old new known p a s low was =
-      let f = single-pass k Trim (pass_from Trim k.sectors old nothing) _ none refl refl a.all a.left.sure refl refl p.reads.2 in
+      let f = single-pass k Trim (pass_from Trim k.sectors old nothing) _ none refl refl a.all a.left.sure refl p.reads.2 in
       let found = get_or f.states s None in
       let made : Status = get_or (statuses p.made) s Untried in
       let same : status_in new s ≡ made = ap (λ (l : List Run). get_or (statuses l) s Untried) p.map in
@@ -233,7 +234,7 @@ module _ {S : Type 0} (k : Kept S) (w : StackRecord) (none : k.file ≡ None) (s
       → IsAfter old → (s : ℕ) → s < k.sectors → AfterSteps passes (status_in old s) (meant s) (state_in known s) → joined_state (get_or (statuses r.made) s Untried) known r.found s ≡ meant s
   last-each passes known old printed images new counts r a s low was =
       let phase = phase_after k.scan.no_scrape passes in
-      let f = single-pass k phase (pass_from phase k.sectors old nothing) _ none refl refl a.all a.left.sure (single-after k.scan.no_scrape passes scrapes) refl r.reads.2 in
+      let f = single-pass k phase (pass_from phase k.sectors old nothing) _ none refl refl a.all a.left.sure (single-after k.scan.no_scrape passes scrapes) r.reads.2 in
       let found = get_or f.states s None in
       let made : Status = get_or (statuses r.made) s Untried in
       let step = subst (λ (x : SectorState). SingleStep phase (status_in old s) made x found) (left-state d w old.left.stack s a.left) (f.each s low) in

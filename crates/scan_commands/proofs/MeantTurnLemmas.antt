@@ -9,19 +9,19 @@ use Rattle.rescue_map.specs.Stages.{statuses}
 use Rattle.rescue_map.specs.Statuses.{is_same}
 use Rattle.rescue_map.specs.Steps.{status_after}
 use Rattle.stack_rules.specs.Names.{mapped}
-use Rattle.stack_meaning.specs.Leaves.{steady_images}
 use Rattle.stack_meaning.specs.LeavesBeneath.{stands_on}
-use Rattle.stack_meaning.specs.Meaning.{sector}
 use Rattle.stack_meaning.specs.declared.fault.IoFault.{IoFault}
 use Rattle.stack_engine.specs.Stacks.{StackRecord}
 use Rattle.stack_recovery.specs.declared.lost_run.Loss.TheVariants.{Lost, Unscraped as LeftUnscraped}
 use Rattle.stack_recovery.specs.declared.recovery.Counts.{Counts}
-use Rattle.stack_recovery.specs.Laws.{AreSure, meant_state}
+use Rattle.stack_recovery.specs.Laws.{AreSure}
 use Rattle.stack_recovery.specs.PassPieces.{Scanned, pass_over}
 use Rattle.stack_recovery.specs.Recoveries.{GoesOverTo, Sides, is_had, is_lost}
 use Rattle.stack_recovery.specs.Skims.{AreSkims}
 use Rattle.stack_recovery.specs.Surveys.{SectorState, all_states}
-use Rattle.stack_recovery.proofs.lemmas.MeantLemmas.{IsLeft, IsMeantState, pass-unscraped, survey-each, survey-left}
+use Rattle.stack_recovery.specs.declared.way.Way.TheVariants.{Forward}
+use Rattle.stack_recovery.proofs.lemmas.CopiedMeantLemmas.{meant_at, survey-each}
+use Rattle.stack_recovery.proofs.lemmas.MeantLemmas.{IsLeft, IsMeantState, pass-unscraped, survey-left}
 use Rattle.stack_recovery.proofs.lemmas.SkimMeantLemmas.{skims-known, unskipped-failed}
 use Rattle.scan_commands.specs.MapFiles.{MapPathRecord}
 use Rattle.scan_commands.specs.declared.phase.Phase.{Phase}
@@ -31,10 +31,6 @@ use Rattle.scan_commands.specs.Turns.{IsTurn, IsUpTo, Kept, Progressed, ReadsSec
 use Rattle.scan_commands.proofs.LostMarkLemmas.{survey-marked}
 use Rattle.scan_commands.proofs.LostTurnLemmas.{asked-inside, status-new}
 use Rattle.scan_commands.proofs.TurnLemmas.{is_large}
-
--- what a sector of device d means to a stack
-abbrev pub meant_at : ℕ → StackRecord → ℕ → SectorState
-meant_at d w s = meant_state (sector w.config (steady_images w.leaves) (mapped d) s)
 
 -- the leaves beneath it are steady and never fail
 abbrev pub IsSure : ℕ → StackRecord → Type 0
@@ -201,7 +197,7 @@ module _ {S : Type 0} (k : Kept S) (phase : Phase) (old new : Progressed S) (t :
 
     -- ---- by a pass by single sectors
 
-    module _ (single : is_large phase ≡ false) (unturned : old.turned ≡ 0) (counts : Counts)
+    module _ (single : is_large phase ≡ false) (counts : Counts)
         (goes : GoesOverTo (asked_marks phase t.span k.sectors old.runs) (scan_in phase (scan_from k old)) (length made) t.made.way old.sides counts (Some t.made.map) t.left) (s : ℕ) (low : s < k.sectors) where
       abbrev states : List SectorState
       states = all_states goes.reads
@@ -233,7 +229,7 @@ module _ {S : Type 0} (k : Kept S) (phase : Phase) (old new : Progressed S) (t :
           (now-not s low taken (made-get ∙ ap is_had e) ∙ cond-false (get_or (losts t.made.map) s false) (step_of phase).failed (step_of phase).left (bad-get ∙ ap is_lost e) ∙ trim-leaves phase trims)
       single-trims false trims fault taken e =
           let p = pass_over old.sides.stack.config k.scan.d marked in
-          absurd (pass-unscraped (scan_in phase (scan_from k old)) p goes.reads s fault trims unturned goes.pieces (omega (arith, low, states-all)) e)
+          absurd (pass-unscraped (scan_in phase (scan_from k old)) p goes.reads s fault trims goes.pieces (omega (arith, low, states-all)) e)
 
       by-state : (x : SectorState) → get_or states s None ≡ x → IsMeantState x means → is_same before (step_of phase).takes ≡ true → SingleStep phase before after means (get_or states s None)
       by-state None e holds taken = single_had (now-had s low taken (made-get ∙ ap is_had e)) holds e
@@ -247,7 +243,7 @@ module _ {S : Type 0} (k : Kept S) (phase : Phase) (old new : Progressed S) (t :
       state-meant taken =
           let here : 0 + s ≡ s = omega arith in
           subst (λ (n : ℕ). IsMeantState (get_or states s None) (meant_at k.scan.d old.sides.stack n)) here
-          (survey-each marked k.scan.d 0 old.sides.stack goes.reads t.left.stack goes.survey goes.pieces sure s (omega (arith, low, states-all)) (ap (λ (n : ℕ). get_or marked n false) here ∙ fresh s low ∙ ap not taken))
+          (survey-each marked k.scan.d 0 old.sides.stack goes.reads t.left.stack (scan_in phase (scan_from k old)) (pass_over old.sides.stack.config k.scan.d marked) Forward goes.survey goes.pieces tt sure s (omega (arith, low, states-all)) (ap (λ (n : ℕ). get_or marked n false) here ∙ fresh s low ∙ ap not taken))
 
       state-none : is_same before (step_of phase).takes ≡ false → get_or states s None ≡ None
       state-none other =
