@@ -1,5 +1,5 @@
 -- What a pass read backwards.
-use Rattle.std.proofs.Common.{◌≡◌, ◌⊎◌, ℕ, ◌+◌, ◌-◌, ◌<◌, ◌≤◌, min, Bool, true, false, cond, List, [], ◌∷◌, ◌++◌, length, get_or, replicate, Option, Some, eqb, sym, ap, ap₂, ◌∙◌, subst, inl, inr, arith}
+use Rattle.std.proofs.Common.{◌≡◌, ◌⊎◌, ℕ, ◌+◌, ◌-◌, ◌<◌, ◌≤◌, min, Bool, true, false, cond, List, [], ◌∷◌, ◌++◌, length, get_or, replicate, Option, Some, None, eqb, sym, ap, ap₂, ◌∙◌, subst, inl, inr, arith}
 use Rattle.std.proofs.lemmas.Bool.{cases_lt, false≢true}
 use Rattle.std.proofs.lemmas.List.{get_or-replicate, length-append, length-replicate}
 use Rattle.rescue_map.specs.declared.map.Run.{Run}
@@ -26,7 +26,6 @@ use Rattle.scan_commands.specs.MapFiles.{MapPathRecord}
 use Rattle.scan_commands.specs.TurnCalls.{ReadsUntil}
 use Rattle.scan_commands.specs.Turns.{IsTurnDeadline, IsUpTo, ReadsLeft, ReadsSectors, asked_marks, scan_in, step_of}
 use Rattle.scan_commands.proofs.LostMarkLemmas.{spliced-before}
-use Rattle.scan_commands.proofs.TurnLemmas.{ends-past, way-inside}
 
 -- a pass that has come to a sector and reads a run backwards from its end: no sector between these was read before
 abbrev pub IsRunUnread : List Bool → ℕ → Way → Type 0
@@ -88,6 +87,27 @@ reads-unread Trim wanted before scan old made new r = left-unread before (scan_i
 reads-unread Scrape wanted before scan old made new r = left-unread before (scan_in Scrape scan) old made new r
 reads-unread Retry wanted before scan old made new r = left-unread before (scan_in Retry scan) old made new r
 
+-- ---- inside the device
+
+forward-inside : (way : Way) (at sectors : ℕ) → way ≡ Forward → IsWayInside at way sectors
+forward-inside way at sectors is = subst (λ (x : Way). IsWayInside at x sectors) (sym is) tt
+
+-- what a pass read backwards is inside the device
+pub way-inside : (phase : Phase) (wanted : ℕ) (before : List Bool) (scan : Scanned) (old : Sides) (made : ReadMap) (new : Sides) (sectors : ℕ) → sectors ≡ size old.stack.config (mapped scan.d) → ReadsSectors phase wanted before scan old made new
+    → IsWayInside (length (marks made.map)) made.way sectors
+way-inside Skim wanted before scan old made new sectors all r = forward-inside made.way (length (marks made.map)) sectors r.2
+way-inside Sweep wanted before scan old made new sectors all r = forward-inside made.way (length (marks made.map)) sectors r.2
+way-inside Trim wanted before scan old made new sectors all r = subst (IsWayInside (length (marks made.map)) made.way) (sym all) r.1.inside
+way-inside Scrape wanted before scan old made new sectors all r = subst (IsWayInside (length (marks made.map)) made.way) (sym all) r.1.inside
+way-inside Retry wanted before scan old made new sectors all r = subst (IsWayInside (length (marks made.map)) made.way) (sym all) r.1.inside
+
+pub inside-from : (way : Way) (at sectors : ℕ) → IsWayInside at way sectors → IsWayInside 0 way sectors
+inside-from Forward at sectors inside = tt
+inside-from Turned at sectors inside = tt
+inside-from (Backward low end) at sectors inside = (omega arith, inside.1, inside.2)
+
+-- ---- the sectors of a turn
+
 -- the sectors before a turn count as read
 asked-low : (phase : Phase) (span : Span) (sectors : ℕ) (runs : List Run) → span.first + span.count ≤ sectors → span.first + span.count ≤ length (untaken_marks (step_of phase).takes runs) → (s : ℕ) → s < span.first
     → get_or (asked_marks phase span sectors runs) s false ≡ true
@@ -107,7 +127,19 @@ backward-past phase span sectors runs in_all long at (Backward low end) is insid
   | inr from ↦ from
 ]
 
--- ---- a turn
+-- a turn ended past its first sector or after reads backwards, and without a map file after the last sector
+pub ends-past : (file : Option MapPathRecord) (first : ℕ) (deadline : Option Deadline) (way : Way) (at sectors : ℕ) → IsTurnDeadline file first deadline → first < sectors → EndsAt deadline way at sectors
+    → ((first < at) ⊎ (is_backward way ≡ true)) × IsUpTo file sectors at
+ends-past None first deadline way at sectors until inside ends = whole (subst (λ (x : Option Deadline). EndsAt x way at sectors) until ends)
+  where
+    whole : EndsAt None way at sectors → ((first < at) ⊎ (is_backward way ≡ true)) × (at ≡ sectors)
+    whole (inl e) = (inl (omega (arith, inside, e)), e)
+    whole (inr early) = absurd early.0
+ends-past (Some file) first deadline way at sectors until inside ends = upto (subst (λ (x : Option Deadline). EndsAt x way at sectors) until.1 ends)
+  where
+    upto : EndsAt (Some (record { first = first; seconds = until.0 })) way at sectors → ((first < at) ⊎ (is_backward way ≡ true)) × (at ≤ sectors)
+    upto (inl e) = (inl (omega (arith, inside, e)), omega (arith, e))
+    upto (inr early) = early
 
 -- where the reads of a turn ended: past its first sector, or after reads backwards
 pub record IsReadPast (file : Option MapPathRecord) (span : Span) (sectors : ℕ) (made : ReadMap) : Type 0 where

@@ -184,18 +184,18 @@ module _ {S : Type 0} (k : Kept S) (phase : Phase) (old new : Progressed S) (t :
       let bad : Bool = get_or (spliced_marks behind (losts t.forwards) (losts h.0)) from false in
       -- the first step doesn't reach it
       let same : get_or (statuses t.forwards) from Untried ≡ was =
-          step-get step span old.runs t.made.map t.forwards t.stepped inside-old inside-made from (omega (arith, low, size))
-          ∙ ap (λ (i : Bool). status_after step i was (get_or (spliced_marks span (marks old.runs) (marks t.made.map)) from false) (get_or (spliced_marks span (losts old.runs) (losts t.made.map)) from false))
-            (inside-behind span from (omega (arith, upto, t.here, inside.0))) in
+      step-get step span old.runs t.made.map t.forwards t.stepped inside-old inside-made from (omega (arith, low, size))
+      ∙ ap (λ (i : Bool). status_after step i was (get_or (spliced_marks span (marks old.runs) (marks t.made.map)) from false) (get_or (spliced_marks span (losts old.runs) (losts t.made.map)) from false))
+      (inside-behind span from (omega (arith, upto, t.here, inside.0))) in
       let had : get_or (spliced_marks behind (marks t.forwards) (marks h.0)) from false ≡ true =
-          spliced-inside behind (marks t.forwards) (marks h.0) in_forwards in_all from (omega arith) (omega (arith, bounds, inside.1))
-          ∙ ap (λ (l : List Bool). get_or l from false) h.1 ∙ get_or-replicate k.sectors from true false low in
+      spliced-inside behind (marks t.forwards) (marks h.0) in_forwards in_all from (omega arith) (omega (arith, bounds, inside.1))
+      ∙ ap (λ (l : List Bool). get_or l from false) h.1 ∙ get_or-replicate k.sectors from true false low in
       let now : get_or (statuses new.runs) from Untried ≡ Recovered =
-          step-get step behind t.forwards h.0 new.runs h.2 in_forwards in_all from (omega (arith, low, forwards-all))
-          ∙ ap (λ (i : Bool). status_after step i (get_or (statuses t.forwards) from Untried) (get_or (spliced_marks behind (marks t.forwards) (marks h.0)) from false) bad) (inside-within behind from (omega arith) (omega (arith, bounds, inside.1)))
-          ∙ ap (λ (x : Status). status_after step true x (get_or (spliced_marks behind (marks t.forwards) (marks h.0)) from false) bad) same
-          ∙ ap (λ (x : Bool). status_after step true was x bad) had
-          ∙ after-had step was bad taken in
+      step-get step behind t.forwards h.0 new.runs h.2 in_forwards in_all from (omega (arith, low, forwards-all))
+      ∙ ap (λ (i : Bool). status_after step i (get_or (statuses t.forwards) from Untried) (get_or (spliced_marks behind (marks t.forwards) (marks h.0)) from false) bad) (inside-within behind from (omega arith) (omega (arith, bounds, inside.1)))
+      ∙ ap (λ (x : Status). status_after step true x (get_or (spliced_marks behind (marks t.forwards) (marks h.0)) from false) bad) same
+      ∙ ap (λ (x : Bool). status_after step true was x bad) had
+      ∙ after-had step was bad taken in
       unmarked-less (marks old.runs) (marks new.runs) t.whole keeps from (omega (arith, low, size))
       (marks-get old.runs from (omega (arith, low, size)) ∙ taken-lost was step.takes (takes-other phase) taken)
       (marks-get new.runs from (omega (arith, low, new-all)) ∙ ap is_recovered now)

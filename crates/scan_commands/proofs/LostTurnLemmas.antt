@@ -119,10 +119,10 @@ module _ {S : Type 0} (k : Kept S) (phase : Phase) (old new : Progressed S) (t :
       let lost = spliced-size behind (losts t.forwards) (losts h.0) (omega (arith, bounds, forwards-all, losts-length t.forwards)) (omega (arith, bounds, all, losts-length h.0)) in
       ap (λ (l : List Status). get_or l s Untried) h.2
       ∙ stepped-get step behind 0 (statuses t.forwards) (spliced_marks behind (marks t.forwards) (marks h.0)) (spliced_marks behind (losts t.forwards) (losts h.0)) s (omega (arith, low, inside.0, inside.1, inside.2, forwards-all, statuses-length t.forwards))
-          (omega (arith, low, inside.0, inside.1, inside.2, forwards-all, hads)) (omega (arith, low, inside.0, inside.1, inside.2, forwards-all, lost, losts-length t.forwards))
+      (omega (arith, low, inside.0, inside.1, inside.2, forwards-all, hads)) (omega (arith, low, inside.0, inside.1, inside.2, forwards-all, lost, losts-length t.forwards))
       ∙ ap (λ (n : ℕ). status_after step (is_inside behind n) (get_or (statuses t.forwards) s Untried) (get_or (spliced_marks behind (marks t.forwards) (marks h.0)) s false) (get_or (spliced_marks behind (losts t.forwards) (losts h.0)) s false)) here
       ∙ ap (λ (i : Bool). status_after step i (get_or (statuses t.forwards) s Untried) (get_or (spliced_marks behind (marks t.forwards) (marks h.0)) s false) (get_or (spliced_marks behind (losts t.forwards) (losts h.0)) s false))
-        (inside-before behind s (omega (arith, low, inside.0)))
+      (inside-before behind s (omega (arith, low, inside.0)))
 
   unmoved : (s : ℕ) → s < new.at → get_or (statuses new.runs) s Untried ≡ get_or (statuses t.forwards) s Untried
   unmoved s low = unmoved-by t.made.way t.behind t.map s (omega (arith, low, t.here))

@@ -16,7 +16,7 @@ use Rattle.scan_commands.specs.declared.turn_reads.ReadMap.{ReadMap}
 use Rattle.image_files.specs.declared.texts.ReplaceFault.{ReplaceFault}
 use Rattle.scan_commands.specs.MapFiles.{MapPathRecord, recovery_ending}
 use Rattle.rescue_map.specs.declared.splicing.Span.{Span}
-use Rattle.scan_commands.specs.Turns.{IsSpan, IsTurnDeadline, IsUpTo, asked_marks, Kept, Progressed, ReadsLarge, ReadsLeft, ReadsSectors, Replaces, is_trim, kept as kept_by, most_skipped, scan_from, scan_in, synced_by}
+use Rattle.scan_commands.specs.Turns.{IsSpan, IsUpTo, asked_marks, Kept, Progressed, ReadsLarge, ReadsLeft, ReadsSectors, Replaces, is_trim, kept as kept_by, most_skipped, scan_from, scan_in, synced_by}
 use Rattle.scan_commands.specs.TurnEnds.{EndsSectors, EndsUnmapped, FailsToWrite, IsFileUnreplaced, LeavesMap, RunsOut, IsMapUnwritten, IsUnfailed, StopsIn, largest_print_allocation, skipping_in}
 use Rattle.scan_commands.specs.TurnCalls.{ReadsLeftUntil, ReadsUntil}
 use Rattle.stack_recovery.specs.declared.deadline.Deadline.{Deadline}
@@ -29,11 +29,10 @@ use Rattle.stack_recovery.specs.Deadlines.{EndsAt}
 use Rattle.stack_recovery.specs.FirstPasses.{EndsSkim, SkimsShort, SkimsTo, SkimsUntil, Skipping, Transfer, skimmed, skipping}
 use Rattle.stack_recovery.specs.Skims.{IsSkimOver, Skim as SkimPiece, marks_of, skim_marks}
 use Rattle.stack_recovery.specs.FirstPasses.{transfer_of}
-use Rattle.stack_recovery.specs.PassPieces.{IsWayInside, Scanned}
+use Rattle.stack_recovery.specs.PassPieces.{Scanned}
 use Rattle.stack_recovery.specs.Recoveries.{FailsOutput, FindsNoMemory, GoesOverTo, IsMapRefused, IsRescueEnd, RescuesUntil, RunsShort, Sides, counted_sectors, is_had}
-use Rattle.stack_recovery.specs.Ways.{is_backward}
 use Rattle.stack_recovery.specs.declared.way.Way.{Way}
-use Rattle.stack_recovery.specs.declared.way.Way.TheVariants.{Backward, Forward, Turned}
+use Rattle.stack_recovery.specs.declared.way.Way.TheVariants.{Forward}
 use Rattle.stack_recovery.specs.Surveys.{AnswersFinding, Finding, IsSurveyOver, PieceRead, SectorState, again, all_states, copied, had, kept, lost, probed, states_of, trimmed}
 
 -- whether a pass reads in large pieces
@@ -85,38 +84,6 @@ reads-unfailed Scrape wanted before scan old made new r = r.1.unfailed
 reads-unfailed Retry wanted before scan old made new r = r.1.unfailed
 
 -- ---- one pass over the sectors of a turn
-
--- it ended past the first sector, and without a map file after the last one
-pub ends-past : (file : Option MapPathRecord) (first : ℕ) (deadline : Option Deadline) (way : Way) (at sectors : ℕ) → IsTurnDeadline file first deadline → first < sectors → EndsAt deadline way at sectors
-    → ((first < at) ⊎ (is_backward way ≡ true)) × IsUpTo file sectors at
-ends-past None first deadline way at sectors until inside ends = whole (subst (λ (x : Option Deadline). EndsAt x way at sectors) until ends)
-  where
-    whole : EndsAt None way at sectors → ((first < at) ⊎ (is_backward way ≡ true)) × (at ≡ sectors)
-    whole (inl e) = (inl (omega (arith, inside, e)), e)
-    whole (inr early) = absurd early.0
-ends-past (Some file) first deadline way at sectors until inside ends = upto (subst (λ (x : Option Deadline). EndsAt x way at sectors) until.1 ends)
-  where
-    upto : EndsAt (Some (record { first = first; seconds = until.0 })) way at sectors → ((first < at) ⊎ (is_backward way ≡ true)) × (at ≤ sectors)
-    upto (inl e) = (inl (omega (arith, inside, e)), omega (arith, e))
-    upto (inr early) = early
-
-
-forward-inside : (way : Way) (at sectors : ℕ) → way ≡ Forward → IsWayInside at way sectors
-forward-inside way at sectors is = subst (λ (x : Way). IsWayInside at x sectors) (sym is) tt
-
--- what a pass read backwards is inside the device
-pub way-inside : (phase : Phase) (wanted : ℕ) (before : List Bool) (scan : Scanned) (old : Sides) (made : ReadMap) (new : Sides) (sectors : ℕ) → sectors ≡ size old.stack.config (mapped scan.d) → ReadsSectors phase wanted before scan old made new
-    → IsWayInside (length (marks made.map)) made.way sectors
-way-inside Skim wanted before scan old made new sectors all r = forward-inside made.way (length (marks made.map)) sectors r.2
-way-inside Sweep wanted before scan old made new sectors all r = forward-inside made.way (length (marks made.map)) sectors r.2
-way-inside Trim wanted before scan old made new sectors all r = subst (IsWayInside (length (marks made.map)) made.way) (sym all) r.1.inside
-way-inside Scrape wanted before scan old made new sectors all r = subst (IsWayInside (length (marks made.map)) made.way) (sym all) r.1.inside
-way-inside Retry wanted before scan old made new sectors all r = subst (IsWayInside (length (marks made.map)) made.way) (sym all) r.1.inside
-
-pub inside-from : (way : Way) (at sectors : ℕ) → IsWayInside at way sectors → IsWayInside 0 way sectors
-inside-from Forward at sectors inside = tt
-inside-from Turned at sectors inside = tt
-inside-from (Backward low end) at sectors inside = (omega arith, inside.1, inside.2)
 
 pub up-to-few : (file : Option MapPathRecord) (sectors at : ℕ) → IsUpTo file sectors at → at ≤ sectors
 up-to-few None sectors at e = omega (arith, e)

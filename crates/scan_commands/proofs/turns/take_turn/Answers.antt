@@ -13,8 +13,8 @@ use Rattle.scan_commands.specs.declared.rescue_fault.PassFault.TheVariants.{NoMe
 use Rattle.scan_commands.specs.MapFiles.{map_path_of, recovery_ending}
 use Rattle.scan_commands.specs.Turns.{ReadsSectors, StepsBackwards, kept, progressed, span_between, step_of}
 use Rattle.scan_commands.specs.TurnCalls.{turn_scan}
-use Rattle.scan_commands.proofs.BackwardLemmas.{read-past}
-use Rattle.scan_commands.proofs.TurnLemmas.{err-from, failed-behind, inside-from, reads-out, reads-unfailed, stops-reading, stops-unmapped, stops-unwritten, synced-failures}
+use Rattle.scan_commands.proofs.BackwardLemmas.{inside-from, read-past}
+use Rattle.scan_commands.proofs.TurnLemmas.{err-from, failed-behind, reads-out, reads-unfailed, stops-reading, stops-unmapped, stops-unwritten, synced-failures}
 use Rattle.stack_rules.specs.Names.{mapped, size}
 use Rattle.scan_commands.proofs.turns.take_turn.Goals as goal
 
