@@ -37,6 +37,10 @@ either-way : (marks : List Bool) (at : ℕ) (turns : Bool) → IsRunUnread marks
 either-way marks at true = tt
 either-way marks at false = tt
 
+kept-way : (marks : List Bool) (at : ℕ) (here turns : Bool) → IsRunUnread marks at (cond here (cond turns Turned Forward) Forward)
+kept-way marks at true turns = either-way marks at turns
+kept-way marks at false turns = tt
+
 module _ (scan : Scanned) (p : Pass) (marks : List Bool) where
   unread-piece : (c : Configuration) (d first : ℕ) (way : Way) (n : ℕ) (found : Finding) → MayFind c d first n found → AreMarked marks first n (mark_of found) → IsPieceFound p first way n found
       → IsRunUnread marks first way → IsRunUnread marks (first + length (states_found n found)) (way_found scan way first n found)
@@ -56,7 +60,7 @@ module _ (scan : Scanned) (p : Pass) (marks : List Bool) where
       let here : first + all + j ≡ first + (all + j) = omega arith in
       ap (λ (k : ℕ). get_or marks k false) here ∙ unread (all + j) (omega (arith, below))
   unread-piece c d first way n copied may marked piece unread = tt
-  unread-piece c d first way n kept may marked piece unread = either-way marks _ (eqb (first + n) scan.turned)
+  unread-piece c d first way n kept may marked piece unread = kept-way marks _ (eqb (first + n) scan.turned) scan.no_scrape
 
   pub unread-pieces : (d first : ℕ) (w : StackRecord) (reads : List PieceRead) (w' : StackRecord) (way : Way) → IsSurveyOver marks d first w reads w' → AreInPieces scan p first way reads
       → IsRunUnread marks first way → IsRunUnread marks (first + length (all_states reads)) (way_from scan way first reads)

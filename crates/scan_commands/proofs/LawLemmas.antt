@@ -49,7 +49,7 @@ read-size w file sectors made (inr new) = unread-size sectors made new.unread
 -- ---- the passes
 
 pub silent-size : {S : Type 0} (k : Kept S) (phase : Phase) (old new : AfterTurns S) → IsSilentPass k phase old new → length (marks old.left.map) ≡ k.sectors → length (marks new.left.map) ≡ k.sectors
-silent-size k phase old new p size = size-turns k phase (pass_from phase k.sectors old p.0) p.4 size
+silent-size k phase old new p size = size-turns k phase (pass_from phase k.sectors old p.0) p.2.2 size
 
 sweeps-size : {S : Type 0} (k : Kept S) (old new : AfterTurns S) → SweepsInTurns k old new → length (marks old.left.map) ≡ k.sectors → length (marks new.left.map) ≡ k.sectors
 sweeps-size k old new p size = silent-size k Sweep p.between new p.sweeps (silent-size k Skim old p.between p.skims size)

@@ -28,7 +28,7 @@ use Rattle.scan_commands.proofs.LostTurnLemmas.{asked-inside, asked-within, not-
 -- ---- sectors that aren't marked
 
 -- how many there are
-pub unmarked : List Bool → ℕ
+abbrev pub unmarked : List Bool → ℕ
 unmarked [] = 0
 unmarked (true ∷ more) = unmarked more
 unmarked (false ∷ more) = suc (unmarked more)

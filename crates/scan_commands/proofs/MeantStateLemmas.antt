@@ -177,20 +177,20 @@ module _ {S : Type 0} (k : Kept S) (w : StackRecord) (none : k.file ≡ None) (s
   silent-after : (phase : Phase) (old new : AfterTurns S) → IsSilentPass k phase old new → IsAfter old → IsAfter new
   silent-after phase old new p a = record {
     all = silent-size k phase old new p a.all;
-    left = then-left d w old.left.stack new.left.stack a.left (pass-left k phase (pass_from phase k.sectors old p.0) _ none refl refl a.all a.left.sure p.4);
+    left = then-left d w old.left.stack new.left.stack a.left (pass-left k phase (pass_from phase k.sectors old p.0) _ none refl refl a.all a.left.sure p.2.2);
   }
 
   large-after : (phase : Phase) (old new : AfterTurns S) (p : IsSilentPass k phase old new) → is_large phase ≡ true → (phase ≡ Sweep → (pass_from phase k.sectors old p.0).skip ≡ 0) → IsAfter old → (s : ℕ) → s < k.sectors
       → LargeStep phase (status_in old s) (status_in new s) (meant s)
   large-after phase old new p large sweeps a s low =
       subst (λ (x : SectorState). LargeStep phase (status_in old s) (status_in new s) x) (left-state d w old.left.stack s a.left)
-      (large-pass k phase (pass_from phase k.sectors old p.0) _ none refl refl a.all a.left.sure large sweeps p.4 s low)
+      (large-pass k phase (pass_from phase k.sectors old p.0) _ none refl refl a.all a.left.sure large sweeps p.2.2 s low)
 
   -- a pass by single sectors that reports nothing
   single-silent : (n : ℕ) (old new : AfterTurns S) (p : IsSilentTurns k n old new) → IsAfter old → (s : ℕ) → s < k.sectors → (known : SectorState) → AfterSteps n (status_in old s) (meant s) known → AfterScrape (status_in new s) (meant s)
   single-silent n old new p a s low known was =
       let phase = phase_after k.scan.no_scrape n in
-      let f = single-pass k phase (pass_from phase k.sectors old p.0) _ none refl refl a.all a.left.sure (single-after k.scan.no_scrape n scrapes) p.4 in
+      let f = single-pass k phase (pass_from phase k.sectors old p.0) _ none refl refl a.all a.left.sure (single-after k.scan.no_scrape n scrapes) p.2.2 in
       let found = get_or f.states s None in
       step-after k.scan.no_scrape n (status_in old s) (status_in new s) (meant s) known found scrapes was
       (subst (λ (x : SectorState). SingleStep phase (status_in old s) (status_in new s) x found) (left-state d w old.left.stack s a.left) (f.each s low))

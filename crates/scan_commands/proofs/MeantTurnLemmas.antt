@@ -20,8 +20,8 @@ use Rattle.stack_recovery.specs.Recoveries.{GoesOverTo, Sides, is_had, is_lost}
 use Rattle.stack_recovery.specs.Skims.{AreSkims}
 use Rattle.stack_recovery.specs.Surveys.{SectorState, all_states}
 use Rattle.stack_recovery.specs.declared.way.Way.TheVariants.{Forward}
-use Rattle.stack_recovery.proofs.lemmas.CopiedMeantLemmas.{meant_at, survey-each}
-use Rattle.stack_recovery.proofs.lemmas.MeantLemmas.{IsLeft, IsMeantState, pass-unscraped, survey-left}
+use Rattle.stack_recovery.proofs.lemmas.CopiedMeantLemmas.{IsMeantState, meant_at, survey-each}
+use Rattle.stack_recovery.proofs.lemmas.MeantLemmas.{IsLeft, pass-unscraped, survey-left}
 use Rattle.stack_recovery.proofs.lemmas.SkimMeantLemmas.{skims-known, unskipped-failed}
 use Rattle.scan_commands.specs.MapFiles.{MapPathRecord}
 use Rattle.scan_commands.specs.declared.phase.Phase.{Phase}

@@ -28,7 +28,7 @@ module _ {S : Type 0} (k : Kept S) (none : k.file ≡ None) where
   turns-plain phase first (passes turns t) = ap (λ (x : Progressed S). x.images) t.same ∙ turns-plain phase first turns
 
   silent-plain : (phase : Phase) (old new : AfterTurns S) → IsSilentPass k phase old new → new.images ≡ old.images
-  silent-plain phase old new p = turns-plain phase (pass_from phase k.sectors old p.0) p.4
+  silent-plain phase old new p = turns-plain phase (pass_from phase k.sectors old p.0) p.2.2
 
   sweeps-plain : (old new : AfterTurns S) → SweepsInTurns k old new → new.images ≡ old.images
   sweeps-plain old new p = silent-plain Sweep p.between new p.sweeps ∙ silent-plain Skim old p.between p.skims
