@@ -1,5 +1,5 @@
 -- What a pass read backwards.
-use Rattle.std.proofs.Common.{◌≡◌, ◌⊎◌, ℕ, ◌+◌, ◌-◌, ◌<◌, ◌≤◌, min, Bool, true, false, cond, List, [], ◌∷◌, ◌++◌, length, get_or, replicate, Option, Some, None, eqb, sym, ap, ap₂, ◌∙◌, subst, inl, inr, arith}
+use Rattle.std.proofs.Common.{◌≡◌, ◌⊎◌, ℕ, ◌+◌, ◌-◌, ◌<◌, ◌≤◌, min, Bool, true, false, cond, List, [], ◌∷◌, ◌++◌, length, get_or, replicate, Option, Some, None, eqb, sym, ap, ◌∙◌, subst, inl, inr, arith}
 use Rattle.std.proofs.lemmas.Bool.{cases_lt, false≢true}
 use Rattle.std.proofs.lemmas.List.{get_or-replicate, length-append, length-replicate}
 use Rattle.rescue_map.specs.declared.map.Run.{Run}
@@ -12,12 +12,11 @@ use Rattle.stack_rules.specs.Records.{Configuration}
 use Rattle.stack_engine.specs.Stacks.{StackRecord}
 use Rattle.stack_recovery.specs.declared.deadline.Deadline.{Deadline}
 use Rattle.stack_recovery.specs.Deadlines.{EndsAt}
-use Rattle.stack_recovery.specs.declared.lost_run.Loss.TheVariants.{Lost, Unscraped}
 use Rattle.stack_recovery.specs.declared.way.Way.{Way}
 use Rattle.stack_recovery.specs.declared.way.Way.TheVariants.{Backward, Forward, Turned}
 use Rattle.stack_recovery.specs.PassPieces.{AreInPieces, IsPieceFound, IsWayInside, Pass, Scanned, pass_over, way_found, way_from}
 use Rattle.stack_recovery.specs.Recoveries.{Sides}
-use Rattle.stack_recovery.specs.Surveys.{AreMarked, Finding, IsSurveyOver, MayFind, PieceRead, SectorState, again, all_states, copied, had, kept, lost, mark_of, probed, states_found, states_of, trimmed}
+use Rattle.stack_recovery.specs.Surveys.{AreMarked, Finding, IsSurveyOver, MayFind, PieceRead, again, all_states, copied, had, kept, lost, mark_of, probed, states_found, states_of, trimmed}
 use Rattle.stack_recovery.specs.Ways.{is_backward}
 use Rattle.scan_commands.specs.declared.phase.Phase.{Phase}
 use Rattle.scan_commands.specs.declared.phase.Phase.TheVariants.{Retry, Scrape, Skim, Sweep, Trim}

@@ -6,7 +6,7 @@ use Rattle.rescue_map.specs.Maps.{marks}
 use Rattle.rescue_map.specs.Steps.{stepped_statuses, untaken_marks}
 use Rattle.rescue_map.proofs.lemmas.SpanLemmas.{spliced-length}
 use Rattle.rescue_map.proofs.lemmas.StatusLemmas.{untaken-length}
-use Rattle.stack_recovery.specs.PassPieces.{Scanned, scanned}
+use Rattle.stack_recovery.specs.PassPieces.{scanned}
 use Rattle.stack_recovery.specs.Recoveries.{Sides, sides}
 use Rattle.stack_recovery.specs.Ways.{is_backward}
 use Rattle.scan_commands.specs.declared.rescue_fault.PassFault.TheVariants.{NoMemory, Output}
@@ -15,7 +15,6 @@ use Rattle.scan_commands.specs.Turns.{ReadsSectors, StepsBackwards, kept, progre
 use Rattle.scan_commands.specs.TurnCalls.{turn_scan}
 use Rattle.scan_commands.proofs.BackwardLemmas.{inside-from, read-past}
 use Rattle.scan_commands.proofs.TurnLemmas.{err-from, failed-behind, reads-out, reads-unfailed, stops-reading, stops-unmapped, stops-unwritten, synced-failures}
-use Rattle.stack_rules.specs.Names.{mapped, size}
 use Rattle.scan_commands.proofs.turns.take_turn.Goals as goal
 
 pub read_turn-requires-clause-fits : goal.read_turn-requires-clause-fits
