@@ -158,8 +158,8 @@ fn take_turn<'a, I: Images, D: BlockDev, O: SyncDev, L: Listing, P: Progress>(
 ///
 /// With a map file turns have at most 64 MiB, or about a 65,536th of a device above 4 TiB. A turn ends before a further piece once it has taken
 /// 30 seconds, also while a run is read backwards: what was read of the run is then recovered, and the next turn goes on backwards. The next
-/// turn of the first pass skips as many sectors after its first failed read as this one would. After each turn the other
-/// device is synced, and the map file replaced by the map of what was read and lost so far. An interruption therefore loses at most one turn.
+/// turn of the first pass skips as many sectors after its first failed read as this one would. After each turn the other device is synced, and
+/// the map file replaced by the map of what was read and lost so far. An interruption therefore loses at most one turn.
 ///
 /// # Errors
 ///
