@@ -88,7 +88,7 @@ image_text {D} {state} {device} {size} {trusted} writable pair parity =
 
 -- the parity of the image, if the plan names its partition
 abbrev pub HasParityOf : {D : Type 0} {state : D → Device} {device : D} {size : SectorSize} {trusted : TrustedRoot} → FindsPair state device size trusted → Option FecRecord → Option ImageParity → Type 0
-HasParityOf {D} {state} {device} {size} {trusted} pair fec parity = HasParity (state pair.signed_device).size pair.table pair.both.verity pair.super fec parity
+HasParityOf {D} {state} {device} {size} {trusted} pair fec parity = HasParity (state pair.signed_device).size pair.table pair.both pair.super fec parity
 
 -- they were found, and the parity, and their text loads and was written
 pub record PrintsRoot {D : Type 0} (state : D → Device) (device : D) (plan : ImagePlanRecord) (trusted : TrustedRoot) (old new : Option (List ℕ)) (notes : Notes) : Type 0 where
@@ -161,7 +161,7 @@ pub record LacksTable {D : Type 0} (state : D → Device) (device : D) (size : S
 -- both hold an image, and the parity that the plan names isn't found or doesn't cover it
 pub record LacksParityOf {D : Type 0} (state : D → Device) (device : D) (plan : ImagePlanRecord) (trusted : TrustedRoot) (fault : PartitionsFault) : Type 0 where
   pub pair : FindsPair state device plan.stack.size trusted
-  pub lacks : LacksParity (state pair.signed_device).size pair.table pair.both.verity pair.super plan.fec fault
+  pub lacks : LacksParity (state pair.signed_device).size pair.table pair.both pair.super plan.fec fault
 
 -- both hold an image, and room for its text, or for the check of it, was refused
 pub record RefusesText {D : Type 0} (state : D → Device) (device : D) (plan : ImagePlanRecord) (trusted : TrustedRoot) : Type 0 where

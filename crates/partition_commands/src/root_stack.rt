@@ -119,7 +119,7 @@ fn print_root_stack<'a, D: BlockDev + Drop, W: Write, E: Write>(
     let signed = find_signature(&mut device, table.size, &table.partitions, &trusted.root);
     let sectors = device.sectors();
     let superblock = superblock_of(device, table.size, &both, &trusted.pin)?;
-    let parity = parity_in(alloc, sectors, &table, &both.verity, &superblock, &plan.fec)?;
+    let parity = parity_in(alloc, sectors, &table, &both, &superblock, &plan.fec)?;
     let writable = plan.stack.writable;
     let found = FoundImage {
         both,
