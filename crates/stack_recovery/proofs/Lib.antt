@@ -14,6 +14,7 @@ mod SkimPieceLemmas
 mod StretchLemmas
 mod SurveyLemmas
 mod TrimLemmas
+mod UnderwayBackLemmas
 mod UnderwayLemmas
 mod WayLemmas
 mod VerityLossLemmas

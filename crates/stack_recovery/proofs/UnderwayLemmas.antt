@@ -1,5 +1,5 @@
 -- A device that is scanned, while sectors are left.
-use Rattle.std.proofs.Common.{◌≡◌, ◌⊎◌, ℕ, ◌+◌, ◌-◌, ◌<◌, ◌≤◌, ◌^◌, Bool, true, false, IsTrue, List, [], ◌∷◌, ◌++◌, length, replicate, Option, Some, None, is_some, Ok, Err, inr, refl, sym, ap, ap₂, ◌∙◌, subst, arith}
+use Rattle.std.proofs.Common.{◌≡◌, ◌⊎◌, ℕ, ◌+◌, ◌-◌, ◌≤◌, ◌^◌, Bool, true, false, IsTrue, List, [], ◌∷◌, ◌++◌, length, replicate, Option, Some, None, is_some, Ok, Err, inr, refl, sym, ap, ap₂, ◌∙◌, subst, arith}
 use Rattle.std.proofs.lemmas.List.{append-nil, length-append, length-replicate}
 use Rattle.block_device.specs.Call.{Call, Write}
 use Rattle.block_device.specs.Device.{Device, HasFailed, IsWritten, sectors_of, spliced}
@@ -25,13 +25,13 @@ use Rattle.stack_recovery.specs.Deadlines.{EndsAt}
 use Rattle.stack_recovery.specs.Handing.{calls_found, copy_calls}
 use Rattle.stack_recovery.specs.Listings.{Listed, Tells}
 use Rattle.stack_recovery.specs.Losses.{NotesLost, StopsInRun, with_loss}
-use Rattle.stack_recovery.specs.PassPieces.{ArePassPieces, IsCopiedTo, IsNextPiece, IsPieceFound, IsProbedTo, IsWayInside, Scanned, pass_over, way_found, way_from, way_kept, way_lost, way_probed}
+use Rattle.stack_recovery.specs.PassPieces.{ArePassPieces, IsNextPiece, IsPieceFound, IsWayInside, Scanned, pass_over, way_found, way_from, way_kept, way_lost}
 use Rattle.stack_recovery.specs.Recoveries.{EndsEarly, FailsOutput, FindsNoMemory, GoesOverUntil, IsBegunOver, AreLossesNoted, AreMarksNoted, IsMapRefused, NotesMore, RunsShort, Sides, counted_sectors, is_had, is_lost, sides}
-use Rattle.stack_recovery.specs.Surveys.{AreMarked, IsPieceSurveyed, IsSurveyOver, MayLose, PieceRead, SectorState, all_states, copied, had, kept, lost, probed, states_of}
+use Rattle.stack_recovery.specs.Surveys.{AreMarked, IsPieceSurveyed, IsSurveyOver, MayLose, PieceRead, SectorState, all_states, had, kept, lost, states_of}
 use Rattle.stack_recovery.specs.declared.way.Way.{Way}
 use Rattle.stack_recovery.specs.declared.way.Way.TheVariants.{Forward}
 use Rattle.stack_recovery.proofs.AheadLemmas.{length-noted, noted-more}
-use Rattle.stack_recovery.proofs.CopyLemmas.{copied-behind, copied-had, copied-lost, copied-none}
+use Rattle.stack_recovery.proofs.CopyLemmas.{copied-had, copied-lost, copied-none}
 use Rattle.runs.proofs.lemmas.RunLemmas.{IsTallied, tallied-all, tallied-had, tallied-lost, tallied-none}
 use Rattle.stack_recovery.proofs.LostRunLemmas.{is_same-equality, lost_in-append, lost_in-had, lost_in-lost, lost_in-most, untried_in-append, untried_in-had, untried_in-lost}
 use Rattle.stack_recovery.proofs.PieceLemmas.{calls-push, pieces-push, way-push}
@@ -111,15 +111,16 @@ module _ (makes_map : Bool) (before : List Bool) (scan : Scanned) (old now : Sid
   }
 
   -- a write of the output device failed
-  pub fails-output : (behind n : ℕ) (bytes : List ℕ) (stack : StackRecord) (out : Device) → EachBytes now.stack scan.d (at + behind) n (Ok bytes) stack → IsWritten now.out (at + behind) n false out → HasFailed old.out out → (IsTrue old.out.never_fails → ⊥)
+  pub fails-output : (behind n : ℕ) (bytes : List ℕ) (stack : StackRecord) (out : Device) → AreMarked before (at + behind) n false → EachBytes now.stack scan.d (at + behind) n (Ok bytes) stack → IsWritten now.out (at + behind) n false out → HasFailed old.out out → (IsTrue old.out.never_fails → ⊥)
       → FailsOutput before scan old (sides stack out now.printed)
   unfolding begun
-  fails-output behind n bytes stack out read writing failed sure = record {
+  fails-output behind n bytes stack out marked read writing failed sure = record {
     begun = begun stack out;
     out = now.out;
     behind = behind;
     n = n;
     bytes = bytes;
+    unread = subst (λ (k : ℕ). AreMarked before (k + behind) n false) u.here marked;
     read = subst (λ (k : ℕ). EachBytes now.stack scan.d (k + behind) n (Ok bytes) stack) u.here read;
     copied = u.copied;
     writing = subst (λ (k : ℕ). IsWritten now.out (k + behind) n false out) u.here writing;
@@ -241,53 +242,6 @@ module _ (makes_map : Bool) (before : List Bool) (scan : Scanned) (old now : Sid
         goes_on = next-goes r;
         written = sym (append-nil calls) ∙ next-calls r;
       })
-
-  -- sectors that were copied backwards
-  pub underway-copied : (n : ℕ) (printed : Listed) (next : Tally) (more : Option (List Run)) → 1 ≤ n → IsCopiedTo at way (at + n) → AreMarked before at n false → NotesMore marks noted more (replicate n true) → NotesMore losts noted more (replicate n false)
-      → Tells now.printed printed (listed tally.last) → next ≡ record { last = None; lost = tally.lost; untried = tally.untried } → IsUnderway makes_map before scan old (sides now.stack now.out printed) (at + n) next more Forward calls
-  underway-copied n printed next more some ends marked noting noting' told is =
-      let r : PieceRead = record { count = n; found = copied; after = now.stack } in
-      let states : all_states (u.reads ++ r ∷ []) ≡ all_states u.reads ++ replicate n None = states-push u.reads r in
-      subst (λ (l : Tally). IsUnderway makes_map before scan old (sides now.stack now.out printed) (at + n) l more Forward calls) (sym is) (record {
-        reads = u.reads ++ r ∷ [];
-        closed = u.closed ++ listed tally.last;
-        survey = next-survey r (record { answered = refl; may = some; marked = marked });
-        here = omega (arith, u.here, ap length states, length-append (all_states u.reads) (states_of r), length-replicate {A = SectorState} n None);
-        tallied = rw states (tallied-had is_same_loss is_same-equality (all_states u.reads) u.closed tally.last n some u.tallied);
-        lost = u.lost ∙ sym (ap lost_in states ∙ lost_in-append (all_states u.reads) (states_of r) ∙ ap (λ (m : ℕ). lost_in (all_states u.reads) + m) (lost_in-had n) ∙ omega arith);
-        untried = u.untried ∙ sym (ap untried_in states ∙ untried_in-append (all_states u.reads) (states_of r) ∙ ap (λ (m : ℕ). untried_in (all_states u.reads) + m) (untried_in-had n) ∙ omega arith);
-        copied = copied-lost u.reads r old.out now.out (λ first m image. refl) u.copied;
-        printed = runs-then old.printed now.printed printed u.closed (listed tally.last) u.printed told;
-        noted = rw states (noted-more marks is_had noted more (all_states u.reads) n None u.noted noting);
-        bad = rw states (noted-more losts is_lost noted more (all_states u.reads) n None u.bad noting');
-        pieces = next-pieces r ends;
-        goes_on = next-goes r;
-        written = sym (append-nil calls) ∙ next-calls r;
-      })
-
-  -- a piece behind these sectors that was read and written
-  pub underway-probed : (behind n m : ℕ) (bytes : List ℕ) (stack : StackRecord) (out : Device) → IsProbedTo (pass_over old.stack.config scan.d before) at way (at + n) → behind < n → m ≡ n - behind
-      → EachBytes now.stack scan.d (at + behind) m (Ok bytes) stack → AreMarked before at n false → IsWritten now.out (at + behind) m true out → (IsTrue now.out.steady → out.image ≡ spliced now.out.image (at + behind) (sectors_of m bytes))
-      → IsUnderway makes_map before scan old (sides stack out now.printed) at tally noted (way_probed way (at + behind) (at + n)) (calls ++ Write (at + behind) bytes true ∷ [])
-  underway-probed behind n m bytes stack out ends some count p marked w image =
-      let r : PieceRead = record { count = n; found = probed behind bytes; after = stack } in
-      let states : all_states (u.reads ++ r ∷ []) ≡ all_states u.reads = states-push u.reads r ∙ append-nil (all_states u.reads) in
-      record {
-        reads = u.reads ++ r ∷ [];
-        closed = u.closed;
-        survey = next-survey r (record { answered = subst (λ (k : ℕ). EachBytes now.stack scan.d (at + behind) k (Ok bytes) stack) count p; may = some; marked = marked });
-        here = u.here ∙ sym (ap length states);
-        tallied = rw states u.tallied;
-        lost = u.lost ∙ sym (ap lost_in states);
-        untried = u.untried ∙ sym (ap untried_in states);
-        copied = copied-behind u.reads n at behind m bytes stack old.out now.out out u.here count u.copied w image;
-        printed = u.printed;
-        noted = rw states u.noted;
-        bad = rw states u.bad;
-        pieces = next-pieces r ends;
-        goes_on = next-goes r;
-        written = next-calls r;
-      }
 
   -- the sectors so far are those that are counted
   pub counted-all : (counts : Counts) → counts ≡ tally_counts at tally → at ≡ counted_sectors counts

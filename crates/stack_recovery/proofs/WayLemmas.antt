@@ -17,6 +17,8 @@ use Rattle.stack_recovery.specs.declared.tally.Tally.{Tally}
 use Rattle.stack_recovery.specs.declared.trimming.LostEnd.{LostEnd}
 use Rattle.stack_recovery.specs.declared.way.Way.{Way}
 use Rattle.stack_recovery.specs.declared.way.Way.TheVariants.{Backward, Forward, Turned}
+use Rattle.std.specs.List.{slice_index_or}
+use Rattle.stack_recovery.specs.Alike.{AreAlike}
 use Rattle.stack_recovery.specs.LeafReads.{Ahead, CopiesLeaves, EndsCopying, ahead, piece_behind, piece_failed, piece_further, sectors_copied, sectors_had}
 use Rattle.stack_recovery.specs.Listings.{Listed, Tells}
 use Rattle.stack_recovery.specs.PassPieces.{IsProbedTo, IsUnreadTo, IsWayInside, Pass, Scanned, pass_over, way_lost, way_probed, way_trimmed}
@@ -27,7 +29,8 @@ use Rattle.stack_recovery.specs.Trims.{CopiesBehind, IsLostEnd, StopsBehind}
 use Rattle.stack_recovery.specs.Ways.{is_copied, is_forward, low_of, way_past}
 use Rattle.stack_recovery.proofs.PieceLemmas.{unread-end, unread-rest}
 use Rattle.stack_recovery.proofs.HandingLemmas.{IsHanding, hands-failed, hands-part}
-use Rattle.stack_recovery.proofs.UnderwayLemmas.{IsUnderway, fails-output, runs-short, underway-copied, underway-kept, underway-probed}
+use Rattle.stack_recovery.proofs.UnderwayBackLemmas.{underway-copied, underway-probed}
+use Rattle.stack_recovery.proofs.UnderwayLemmas.{IsUnderway, fails-output, runs-short, underway-kept}
 
 -- ---- what holds of a way
 
@@ -127,11 +130,11 @@ module _ {D O : Type 0} (state : D → Device) (does : D → Call → D → Type
   pub called-behind : (way : Way) (a : Ahead) (low : ℕ) (seen : O → Device) (first : ℕ) (w' : StackRecord) (p' : O) → CopiesLeaves state does Did before d w o at a v p → IsRegion way a → IsProbedTo (pass_over config d before) at way low
       → CopiesBehind state does seen Did d at low v p w' p' first → (x : Ahead) × IsRegion (way_probed way first low) x × CopiesLeaves state does Did before d w o at x w' p'
   called-behind Forward a low seen first w' p' h region probed b = absurd probed
-  called-behind Turned a low seen first w' p' h region probed b = (ahead first low, refl, piece_behind first low b.bytes h b.given b.did)
+  called-behind Turned a low seen first w' p' h region probed b = (ahead first low, refl, piece_behind first low b.bytes h b.after b.some b.given b.did)
   called-behind (Backward from end) a low seen first w' p' h region probed b = (
     ahead first end,
     refl,
-    piece_further first b.bytes (subst (λ (x : Ahead). CopiesLeaves state does Did before d w o at x v p) (region ∙ ap (λ (k : ℕ). ahead k end) (sym probed)) h) b.given b.did,
+    piece_further first b.bytes (subst (λ (x : Ahead). CopiesLeaves state does Did before d w o at x v p) (region ∙ ap (λ (k : ℕ). ahead k end) (sym probed)) h) b.after b.some b.given b.did,
   )
 
   -- the last lost ones were found
@@ -188,7 +191,7 @@ module _ (makes_map : Bool) (before : List Bool) (scan : Scanned) (old now : Sid
       let count : low - first ≡ low - at - (first - at) = omega (arith, b.after, b.some) in
       let p = pass_over old.stack.config scan.d before in
       let x : IsUnderway makes_map before scan old (sides w' (seen o') now.printed) at tally noted (way_probed way (at + (first - at)) (at + (low - at))) (calls ++ Write (at + (first - at)) b.bytes true ∷ []) =
-      underway-probed makes_map before scan old now at tally noted way calls u (first - at) (low - at) (low - first) b.bytes w' (seen o') (subst (λ (k : ℕ). IsProbedTo p at way k) (sym there) probed) (omega (arith, b.after, b.some)) count
+      underway-probed makes_map before scan old now at tally noted way calls u (first - at) (low - at) (low - first) b.bytes w' (seen o') (subst (λ (k : ℕ). IsProbedTo p at way k) (sym there) probed) (omega (arith, b.after, b.some)) (subst (λ (n : ℕ). AreAlike now.stack.config scan.d (at + (first - at)) n) count (subst (λ (k : ℕ). AreAlike now.stack.config scan.d k (low - first)) (sym here) b.alike)) count
       (subst (λ (k : ℕ). EachBytes now.stack scan.d k (low - first) (Ok b.bytes) w') (sym here) b.answered) marked
       (subst (λ (k : ℕ). IsWritten now.out k (low - first) true (seen o')) (sym here) (subst (λ (x : Device). IsWritten x first (low - first) true (seen o')) same b.written))
       (subst (λ (k : ℕ). IsTrue now.out.steady → (seen o').image ≡ spliced now.out.image k (sectors_of (low - first) b.bytes)) (sym here)
@@ -198,27 +201,33 @@ module _ (makes_map : Bool) (before : List Bool) (scan : Scanned) (old now : Sid
 
 -- ---- why it ends there
 
+-- some of the sectors before `low` have their mark
+inner-marks : (before : List Bool) (at low behind n : ℕ) → AreMarked before at (low - at) false → at + behind + n ≡ low → AreMarked before (at + behind) n false
+inner-marks before at low behind n marked ends = λ j few.
+    let here : at + behind + j ≡ at + (behind + j) = omega arith in
+    ap (λ (k : ℕ). slice_index_or before k false) here ∙ marked (behind + j) (omega (arith, few, ends))
+
 module _ (makes_map : Bool) (before : List Bool) (scan : Scanned) (old now : Sides) (at : ℕ) (tally : Tally) (noted : Option (List Run)) (way : Way) (calls : List Call) (u : IsUnderway makes_map before scan old now at tally noted way calls) where
   pub stops-early : {D O : Type 0} (state : D → Device) (does : D → Call → D → Type 0) (seen : O → Device) (Did : O → Call → O → Type 0) (o o' : O) (w' : StackRecord) (fault : RecoveryFault) → seen o ≡ now.out → now.out.failures ≡ old.out.failures
-      → StopsBehind state does seen Did scan.d at now.stack o w' o' fault → EndsEarly makes_map before scan old (sides w' (seen o') now.printed) fault
-  stops-early state does seen Did o o' w' recovery.NoMemory same unfailed s =
+      → (low : ℕ) → AreMarked before at (low - at) false → StopsBehind state does seen Did scan.d at low now.stack o w' o' fault → EndsEarly makes_map before scan old (sides w' (seen o') now.printed) fault
+  stops-early state does seen Did o o' w' recovery.NoMemory same unfailed low marked s =
       subst (λ (x : Device). RunsShort makes_map before scan old (sides w' x now.printed)) (sym (ap seen s.1 ∙ same)) (runs-short makes_map before scan old now at tally noted way calls u w' unfailed (inl s.0.read))
-  stops-early state does seen Did o o' w' recovery.Output same unfailed s =
-      fails-output makes_map before scan old now at tally noted way calls u s.behind s.count s.bytes w' (seen o') s.answered (subst (λ (x : Device). IsWritten x (at + s.behind) s.count false (seen o')) same s.written)
+  stops-early state does seen Did o o' w' recovery.Output same unfailed low marked s =
+      fails-output makes_map before scan old now at tally noted way calls u s.behind s.count s.bytes w' (seen o') (inner-marks before at low s.behind s.count marked s.ends) s.answered (subst (λ (x : Device). IsWritten x (at + s.behind) s.count false (seen o')) same s.written)
       (subst (λ (n : ℕ). (n < (seen o').failures) ⊎ (n ≡ 2 ^ 64 - 1)) (ap (λ (x : Device). x.failures) same ∙ unfailed) s.failed) (λ h. s.sure (subst (λ (x : Device). IsTrue x.never_fails) (sym same) (u.copied.same.never_fails h)))
 
 module _ {O L : Type 0} (Did : O → Call → O → Type 0) (makes_map : Bool) (before : List Bool) (scan : Scanned) (old now : Sides) (at : ℕ) (tally : Tally) (noted : Option (List Run)) (way : Way) (out out' : O) (h : IsHanding Did makes_map before scan old now at tally noted way out out') (a b : L) where
-  pub stops-handing : {D : Type 0} (state : D → Device) (does : D → Call → D → Type 0) (seen : O → Device) (w' : StackRecord) (o' : O) (fault : RecoveryFault) → StopsBehind state does seen Did scan.d at now.stack out' w' o' fault
-      → HandsOverPart Did before scan.d (parties old.stack out a) (parties w' o' b) fault
-  stops-handing state does seen w' o' recovery.NoMemory s =
-      subst (λ (x : O). HandsOverPart Did before scan.d (parties old.stack out a) (parties w' x b) recovery.NoMemory) (sym s.1) (hands-part Did makes_map before scan old now at tally noted way out out' h a b w')
-  stops-handing state does seen w' o' recovery.Output s = hands-failed Did makes_map before scan old now at tally noted way out out' h a b w' o' s.behind s.count s.bytes s.answered s.did
+  pub stops-handing : {D : Type 0} (state : D → Device) (does : D → Call → D → Type 0) (seen : O → Device) (w' : StackRecord) (o' : O) (fault : RecoveryFault) → (low : ℕ) → AreMarked before at (low - at) false → StopsBehind state does seen Did scan.d at low now.stack out' w' o' fault
+      → HandsOverPart Did before scan (parties old.stack out a) (parties w' o' b) fault
+  stops-handing state does seen w' o' recovery.NoMemory low marked s =
+      subst (λ (x : O). HandsOverPart Did before scan (parties old.stack out a) (parties w' x b) recovery.NoMemory) (sym s.1) (hands-part Did makes_map before scan old now at tally noted way out out' h a b w')
+  stops-handing state does seen w' o' recovery.Output low marked s = hands-failed Did makes_map before scan old now at tally noted way out out' h a b w' o' s.behind s.count s.bytes (inner-marks before at low s.behind s.count marked s.ends) s.answered s.did
 
 module _ {D O : Type 0} (state : D → Device) (does : D → Call → D → Type 0) (Did : O → Call → O → Type 0) (before : List Bool) (d : ℕ) (w : StackRecord) (o : O) (at : ℕ) (v : StackRecord) (p : O) (a : Ahead) (h : CopiesLeaves state does Did before d w o at a v p) where
-  pub stops-called : (seen : O → Device) (w' : StackRecord) (p' : O) (fault : RecoveryFault) → StopsBehind state does seen Did d at v p w' p' fault → EndsCopying state does Did before d w o w' p'
-  stops-called seen w' p' recovery.NoMemory s =
+  pub stops-called : (seen : O → Device) (w' : StackRecord) (p' : O) (fault : RecoveryFault) → (low : ℕ) → StopsBehind state does seen Did d at low v p w' p' fault → EndsCopying state does Did before d w o w' p'
+  stops-called seen w' p' recovery.NoMemory low s =
       subst (λ (x : O). EndsCopying state does Did before d w o w' x) (sym s.1) (inl (at + 0, a, piece_failed s.0.behind s.0.count 0 s.0.fault h s.0.given))
-  stops-called seen w' p' recovery.Output s = inr (record { at = at; copied = a; left = v; out = p; first = at + s.behind; count = s.count; bytes = s.bytes; so_far = h; given = s.given; rest = inr s.did })
+  stops-called seen w' p' recovery.Output low s = inr (record { at = at; copied = a; left = v; out = p; first = at + s.behind; after = omega arith; count = s.count; bytes = s.bytes; so_far = h; given = s.given; rest = inr s.did })
 
 -- ---- the measure
 

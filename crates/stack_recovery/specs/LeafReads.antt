@@ -1,6 +1,6 @@
 -- The calls of a pass over a mapped device, whatever the devices answer: on the leaves' devices those of the pieces that are read, in
 -- order, and no others; on the output device one write for each piece that was read, of the bytes that its calls gave.
-use Rattle.std.specs.Prelude.{◌≡◌, ◌⊎◌, ℕ, ◌+◌, ◌-◌, Bool, true, false, List, Result, Ok, Err}
+use Rattle.std.specs.Prelude.{◌≡◌, ◌⊎◌, ℕ, ◌+◌, ◌-◌, ◌<◌, ◌≤◌, Bool, true, false, List, Result, Ok, Err}
 use Rattle.block_device.specs.Call.{Call, Write}
 use Rattle.block_device.specs.Device.{Device}
 use Rattle.stack_meaning.specs.declared.fault.IoFault.{IoFault}
@@ -17,8 +17,8 @@ pub record Ahead : Type 0 where
 abbrev pub ahead : ℕ → ℕ → Ahead
 ahead low high = record { low = low; high = high }
 
--- A pass has come to a sector of device d. Each piece is read from the sector to which the pass has come, or from one behind it; a further
--- piece behind it ends where the one before began. What was read is written to the same offset. After a piece from the sector to which it has
+-- A pass has come to a sector of device d. Each piece is read from the sector to which the pass has come, or from one further on; the next one
+-- further on may end where that one begins. What was read is written to the same offset. After a piece from the sector to which it has
 -- come the pass goes on after the piece; after a failed read it goes on there or further on. Only past sectors that were read before, or that
 -- it has copied, it goes without a call.
 pub data CopiesLeaves {D O : Type 0} (state : D → Device) (does : D → Call → D → Type 0) (Did : O → Call → O → Type 0) (marks : List Bool) (d : ℕ) (w : StackRecord) (o : O) : ℕ → Ahead → StackRecord → O → Type 0 where
@@ -27,9 +27,9 @@ pub data CopiesLeaves {D O : Type 0} (state : D → Device) (does : D → Call �
       → CopiesLeaves state does Did marks d w o (at + n) a w' o'
   piece_failed : {at : ℕ} {a : Ahead} {v w' : StackRecord} {p : O} (behind n further : ℕ) (fault : IoFault) → CopiesLeaves state does Did marks d w o at a v p → PieceGives state does v (d, at + behind) n (Err fault) w'
       → CopiesLeaves state does Did marks d w o (at + further) a w' p
-  piece_behind : {at : ℕ} {a : Ahead} {v w' : StackRecord} {p o' : O} (first high : ℕ) (bytes : List ℕ) → CopiesLeaves state does Did marks d w o at a v p → PieceGives state does v (d, first) (high - first) (Ok bytes) w' → Did p (Write first bytes true) o'
+  piece_behind : {at : ℕ} {a : Ahead} {v w' : StackRecord} {p o' : O} (first high : ℕ) (bytes : List ℕ) → CopiesLeaves state does Did marks d w o at a v p → at ≤ first → first < high → PieceGives state does v (d, first) (high - first) (Ok bytes) w' → Did p (Write first bytes true) o'
       → CopiesLeaves state does Did marks d w o at (ahead first high) w' o'
-  piece_further : {at low high : ℕ} {v w' : StackRecord} {p o' : O} (first : ℕ) (bytes : List ℕ) → CopiesLeaves state does Did marks d w o at (ahead low high) v p → PieceGives state does v (d, first) (low - first) (Ok bytes) w' → Did p (Write first bytes true) o'
+  piece_further : {at low high : ℕ} {v w' : StackRecord} {p o' : O} (first : ℕ) (bytes : List ℕ) → CopiesLeaves state does Did marks d w o at (ahead low high) v p → at ≤ first → first < low → PieceGives state does v (d, first) (low - first) (Ok bytes) w' → Did p (Write first bytes true) o'
       → CopiesLeaves state does Did marks d w o at (ahead first high) w' o'
   sectors_copied : {low high : ℕ} {v : StackRecord} {p : O} → CopiesLeaves state does Did marks d w o low (ahead low high) v p → CopiesLeaves state does Did marks d w o high (ahead low high) v p
   sectors_had : {at : ℕ} {a : Ahead} {v : StackRecord} {p : O} (n : ℕ) → CopiesLeaves state does Did marks d w o at a v p → AreMarked marks at n true → CopiesLeaves state does Did marks d w o (at + n) a v p
@@ -41,6 +41,7 @@ pub record IsReadUnwritten {D O : Type 0} (state : D → Device) (does : D → C
   pub left : StackRecord
   pub out : O
   pub first : ℕ
+  pub after : at ≤ first
   pub count : ℕ
   pub bytes : List ℕ
   pub so_far : CopiesLeaves state does Did marks d w o at copied left out

@@ -26,7 +26,7 @@ use Rattle.stack_recovery.specs.Copies.{IsCopied}
 use Rattle.stack_recovery.specs.Deadlines.{EndsAt}
 use Rattle.stack_recovery.specs.Listings.{Listed, Tells}
 use Rattle.stack_recovery.specs.PassPieces.{ArePassPieces, IsWayInside, Scanned, pass_over, way_from}
-use Rattle.stack_recovery.specs.Surveys.{IsSurveyOver, PieceRead, SectorState, all_states}
+use Rattle.stack_recovery.specs.Surveys.{AreMarked, IsSurveyOver, PieceRead, SectorState, all_states}
 
 -- the device of a pass, whether it doesn't scrape, and where an earlier pass had turned
 abbrev pub scanned_by : DevicePass → Scanned
@@ -71,13 +71,14 @@ pub record RunsShort (makes_map : Bool) (marks : List Bool) (scan : Scanned) (ol
   pub refused : FindsNoMemory scan.d (length (all_states begun.reads)) begun.left new.stack ⊎ IsMapRefused makes_map
 
 -- A write of the output device failed. The sectors read before are copied. Of a steady device no sector differs from that but
--- those of the piece that was being written, which was read from where the last one ends, or behind it.
+-- those of the piece that was being written, which was read from where the last one ends, or further on. They weren't read before.
 pub record FailsOutput (marks : List Bool) (scan : Scanned) (old new : Sides) : Type 0 where
   pub begun : IsBegunOver marks scan old new
   pub out : Device
   pub behind : ℕ
   pub n : ℕ
   pub bytes : List ℕ
+  pub unread : AreMarked marks (length (all_states begun.reads) + behind) n false
   pub read : EachBytes begun.left scan.d (length (all_states begun.reads) + behind) n (Ok bytes) new.stack
   pub copied : IsCopied begun.reads old.out out
   pub writing : IsWritten out (length (all_states begun.reads) + behind) n false new.out

@@ -48,7 +48,8 @@ AnswersFinding w d first n (trimmed behind fault) w' = EachBytes w d (first + be
 AnswersFinding w d first n copied w' = w' ≡ w
 AnswersFinding w d first n kept w' = w' ≡ w
 
--- Sectors are lost only by a read of one sector, or of sectors that are lost together. Running out of memory is no loss.
+-- Sectors are lost only by a read of one sector, or of sectors that are lost together, and read backwards by such reads alone. Running out of
+-- memory is no loss.
 abbrev pub MayLose : Configuration → ℕ → ℕ → ℕ → IoFault → Type 0
 MayLose c d first n fault = AreAlike c d first n × (fault ≢ NoMemory)
 
@@ -56,7 +57,7 @@ abbrev pub MayFind : Configuration → ℕ → ℕ → ℕ → Finding → Type 
 MayFind c d first n (had bytes) = Unit {0}
 MayFind c d first n (lost fault) = MayLose c d first n fault
 MayFind c d first n (again fault) = Unit {0}
-MayFind c d first n (probed behind bytes) = behind < n
+MayFind c d first n (probed behind bytes) = (behind < n) × AreAlike c d (first + behind) (n - behind)
 MayFind c d first n (trimmed behind fault) = (behind < n) × MayLose c d (first + behind) (n - behind) fault
 MayFind c d first n copied = 1 ≤ n
 MayFind c d first n kept = 1 ≤ n

@@ -12,14 +12,16 @@ use Rattle.stack_recovery.specs.declared.trimming.Behind.{Behind}
 use Rattle.stack_recovery.specs.declared.trimming.Behind.TheVariants.{Copied, Lost}
 use Rattle.stack_recovery.specs.declared.trimming.LostEnd.{LostEnd}
 use Rattle.stack_recovery.specs.Recoveries.{FindsNoMemory}
+use Rattle.stack_recovery.specs.Alike.{AreAlike}
 use Rattle.stack_recovery.specs.Surveys.{MayLose}
 
--- The sectors of device d from sector `first` on and before `low` were read, and written to the same offset of the output device by one
--- call. They aren't before sector `at`.
+-- The sectors of device d from sector `first` on and before `low`, which are lost together, were read, and written to the same offset of the
+-- output device by one call. They aren't before sector `at`.
 pub record CopiesBehind {D O : Type 0} (state : D → Device) (does : D → Call → D → Type 0) (seen : O → Device) (Did : O → Call → O → Type 0) (d at low : ℕ) (w : StackRecord) (o : O) (w' : StackRecord) (o' : O) (first : ℕ) : Type 0 where
   pub bytes : List ℕ
   pub after : at ≤ first
   pub some : first < low
+  pub alike : AreAlike w.config d first (low - first)
   pub answered : EachBytes w d first (low - first) (Ok bytes) w'
   pub given : PieceGives state does w (d, first) (low - first) (Ok bytes) w'
   pub written : IsWritten (seen o) first (low - first) true (seen o')
@@ -48,10 +50,11 @@ pub record RunsOutBehind {D : Type 0} (state : D → Device) (does : D → Call 
   pub given : PieceGives state does w (d, at + behind) count (Err fault) w'
 
 -- the write failed
-pub record FailsBehind {D O : Type 0} (state : D → Device) (does : D → Call → D → Type 0) (seen : O → Device) (Did : O → Call → O → Type 0) (d at : ℕ) (w : StackRecord) (o : O) (w' : StackRecord) (o' : O) : Type 0 where
+pub record FailsBehind {D O : Type 0} (state : D → Device) (does : D → Call → D → Type 0) (seen : O → Device) (Did : O → Call → O → Type 0) (d at low : ℕ) (w : StackRecord) (o : O) (w' : StackRecord) (o' : O) : Type 0 where
   pub behind : ℕ
   pub count : ℕ
   pub bytes : List ℕ
+  pub ends : at + behind + count ≡ low
   pub answered : EachBytes w d (at + behind) count (Ok bytes) w'
   pub given : PieceGives state does w (d, at + behind) count (Ok bytes) w'
   pub written : IsWritten (seen o) (at + behind) count false (seen o')
@@ -59,6 +62,6 @@ pub record FailsBehind {D O : Type 0} (state : D → Device) (does : D → Call 
   pub sure : IsTrue (seen o).never_fails → ⊥
   pub did : Did o (Write (at + behind) bytes false) o'
 
-abbrev pub StopsBehind : {D O : Type 0} → (D → Device) → (D → Call → D → Type 0) → (O → Device) → (O → Call → O → Type 0) → ℕ → ℕ → StackRecord → O → StackRecord → O → RecoveryFault → Type 0
-StopsBehind state does seen Did d at w o w' o' NoMemory = RunsOutBehind state does d at w w' × (o' ≡ o)
-StopsBehind state does seen Did d at w o w' o' Output = FailsBehind state does seen Did d at w o w' o'
+abbrev pub StopsBehind : {D O : Type 0} → (D → Device) → (D → Call → D → Type 0) → (O → Device) → (O → Call → O → Type 0) → ℕ → ℕ → ℕ → StackRecord → O → StackRecord → O → RecoveryFault → Type 0
+StopsBehind state does seen Did d at low w o w' o' NoMemory = RunsOutBehind state does d at w w' × (o' ≡ o)
+StopsBehind state does seen Did d at low w o w' o' Output = FailsBehind state does seen Did d at low w o w' o'

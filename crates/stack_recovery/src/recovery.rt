@@ -7,7 +7,7 @@ ghost use Rattle.rescue_map.specs.Maps.{marks};
 ghost use Rattle.rescue_map.specs.Aheads.{marks_ahead};
 ghost use Rattle.stack_recovery.specs.Handing.{HandsOverPart, HandsOverUntil};
 ghost use Rattle.stack_recovery.specs.LeafReads.{CopiesOver};
-ghost use Rattle.stack_recovery.specs.Recoveries.{EndsEarlyBy, GoesOverBy, AreLossesNoted, AreMarksNoted, counted_sectors, parties};
+ghost use Rattle.stack_recovery.specs.Recoveries.{EndsEarlyBy, GoesOverBy, AreLossesNoted, AreMarksNoted, counted_sectors, parties, scanned_by};
 
 use crate::deadline::{DevicePass, pass_end};
 use crate::fault::RecoveryFault;
@@ -63,7 +63,7 @@ pub(crate) fn go_over<D: BlockDev, O: BlockDev, L: Listing, P: Progress>(
     ensures err { IfErr result (EndsEarlyBy O.state L.told (is_some noted.old) pass (marks_ahead ahead.entry) (parties stack.old out.old listing.old) (parties stack.new out.new listing.new)) }
     ensures noted { OnOk result (is_some noted.new ≡ is_some noted.old) }
     ensures handed { IfOk result (HandsOverUntil (DeviceDoes O.state O.does) pass (marks_ahead ahead.entry) (parties stack.old out.old listing.old) noted.new (parties stack.new out.new listing.new)) }
-    ensures stopped { IfErr result (HandsOverPart (DeviceDoes O.state O.does) (marks_ahead ahead.entry) pass.device.0 (parties stack.old out.old listing.old) (parties stack.new out.new listing.new)) }
+    ensures stopped { IfErr result (HandsOverPart (DeviceDoes O.state O.does) (marks_ahead ahead.entry) (scanned_by pass) (parties stack.old out.old listing.old) (parties stack.new out.new listing.new)) }
     ensures called { CopiesOver D.state D.does (DeviceDoes O.state O.does) (marks_ahead ahead.entry) pass.device.0 stack.old out.old stack.new out.new result (λ course. counted_sectors course.counts) }
 {
     // The call provides the bound on a device's sectors.
@@ -103,7 +103,7 @@ fn go_over_by<D: BlockDev, O: BlockDev, L: Listing, P: Progress>(
     ensures err { IfErr result (EndsEarlyBy O.state L.told (is_some noted.old) pass (marks_ahead ahead.entry) (parties stack.old out.old listing.old) (parties stack.new out.new listing.new)) }
     ensures noted { OnOk result (is_some noted.new ≡ is_some noted.old) }
     ensures handed { IfOk result (HandsOverUntil (DeviceDoes O.state O.does) pass (marks_ahead ahead.entry) (parties stack.old out.old listing.old) noted.new (parties stack.new out.new listing.new)) }
-    ensures stopped { IfErr result (HandsOverPart (DeviceDoes O.state O.does) (marks_ahead ahead.entry) pass.device.0 (parties stack.old out.old listing.old) (parties stack.new out.new listing.new)) }
+    ensures stopped { IfErr result (HandsOverPart (DeviceDoes O.state O.does) (marks_ahead ahead.entry) (scanned_by pass) (parties stack.old out.old listing.old) (parties stack.new out.new listing.new)) }
     ensures called { CopiesOver D.state D.does (DeviceDoes O.state O.does) (marks_ahead ahead.entry) pass.device.0 stack.old out.old stack.new out.new result (λ course. counted_sectors course.counts) }
 {
     let d = pass.device;
@@ -142,7 +142,13 @@ fn go_over_by<D: BlockDev, O: BlockDev, L: Listing, P: Progress>(
                 }
             }
         } else {
-            let low = low_of(way, at + run.count);
+            let end = at + run.count;
+            let low = low_of(way, end);
+            tell(
+                progress,
+                end.saturating_sub(low.saturating_sub(at)),
+                sectors,
+            );
             let behind = read_behind(stack, d, at, low, out, room)?;
             match behind {
                 Behind::Copied(first) => way = way_probed(way, first, low),

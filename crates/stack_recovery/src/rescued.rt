@@ -5,7 +5,7 @@ ghost use Rattle.stack_rules.specs.Names.{mapped, size};
 ghost use Rattle.rescue_map.specs.Maps.{marks};
 ghost use Rattle.stack_recovery.specs.Handing.{HandsOverPart, RescueHands};
 ghost use Rattle.stack_recovery.specs.LeafReads.{CopiesOver};
-ghost use Rattle.stack_recovery.specs.Recoveries.{EndsRescue, RescuesBy, counted_sectors, parties};
+ghost use Rattle.stack_recovery.specs.Recoveries.{EndsRescue, RescuesBy, counted_sectors, parties, scanned_by};
 
 use crate::deadline::DevicePass;
 use crate::fault::RecoveryFault;
@@ -18,7 +18,7 @@ use stack_engine::Stack;
 use std::alloc::Global;
 
 /// The counts of sectors that were read, now or before, and that are lost, and the way that the pass would go on; and the map of these
-/// sectors.
+/// sectors. If the way is `Backward`, its sectors from `low` on are copied too, but neither counted nor in the map.
 #[derive(Drop)]
 pub struct Rescued {
     pub course: Course,
@@ -54,8 +54,8 @@ pub fn rescue<D: BlockDev, O: BlockDev, L: Listing, P: Progress>(
     requires allowed { IsTrue (O.state out.old).may_write }
     ensures ok { IfOk result (RescuesBy O.state L.told pass (marks map.now) (parties stack.old out.old listing.old) (parties stack.new out.new listing.new)) }
     ensures err { IfErr result (EndsRescue O.state L.told pass (marks map.now) (parties stack.old out.old listing.old) (parties stack.new out.new listing.new)) }
-    ensures handed { IfOk result (RescueHands (DeviceDoes O.state O.does) (marks map.now) pass.device.0 (parties stack.old out.old listing.old) (parties stack.new out.new listing.new)) }
-    ensures stopped { IfErr result (HandsOverPart (DeviceDoes O.state O.does) (marks map.now) pass.device.0 (parties stack.old out.old listing.old) (parties stack.new out.new listing.new)) }
+    ensures handed { IfOk result (RescueHands (DeviceDoes O.state O.does) (marks map.now) pass (parties stack.old out.old listing.old) (parties stack.new out.new listing.new)) }
+    ensures stopped { IfErr result (HandsOverPart (DeviceDoes O.state O.does) (marks map.now) (scanned_by pass) (parties stack.old out.old listing.old) (parties stack.new out.new listing.new)) }
     ensures called { CopiesOver D.state D.does (DeviceDoes O.state O.does) (marks map.now) pass.device.0 stack.old out.old stack.new out.new result (λ rescued. counted_sectors rescued.course.counts) }
 {
     let mut noted = Some(Map::new(alloc));

@@ -40,15 +40,16 @@ fn last_piece(config: &Config, d: DevId, first: u64, end: u64) -> u64
     at
 }
 
-/// What a read before sectors that were read backwards found: sectors from one on that were copied, or the last lost sectors of the run.
+/// What a read found that ended where the sectors begin that were read backwards: the first sector from which on these are copied now, or the
+/// last lost sectors of the run.
 #[derive(Clone, Copy)]
 pub(crate) enum Behind {
     Copied(u64),
     Lost(LostEnd),
 }
 
-/// Reads the piece before sector `low`, of sectors that are lost together, but none before sector `at`. If it can be read, it is written
-/// to the same offset of `out`.
+/// Reads the piece of sectors that are lost together that ends before sector `low`, but none before sector `at`. If it can be read, it is
+/// written to the same offset of `out`.
 ///
 /// # Errors
 ///
@@ -67,7 +68,7 @@ pub(crate) fn read_behind<D: BlockDev, O: BlockDev>(
     requires room { (size stack.old.config (mapped d.0) ≤ (O.state out.old).size) × IsTrue (O.state out.old).may_write }
     requires buffer { length room.old ≡ 65536 }
     ensures ok { IfOk result (ReadsBehind D.state D.does O.state (DeviceDoes O.state O.does) d.0 at low stack.old out.old stack.new out.new) }
-    ensures err { IfErr result (StopsBehind D.state D.does O.state (DeviceDoes O.state O.does) d.0 at stack.old out.old stack.new out.new) }
+    ensures err { IfErr result (StopsBehind D.state D.does O.state (DeviceDoes O.state O.does) d.0 at low stack.old out.old stack.new out.new) }
 {
     let first = last_piece(stack.config(), d, at, low);
     let count = low - first;

@@ -37,7 +37,7 @@ pub(crate) fn is_backward(way: Way) -> bool
     }
 }
 
-/// Returns whether the next sectors, from sector `at` on, were read before the pass (`had`), or backwards by it.
+/// Returns whether the run from sector `at` on was read already: before the pass (`had`), or backwards by it.
 pub(crate) fn is_past(had: bool, way: Way, at: u64) -> bool
     ensures { result ≡ (had || is_copied way at) }
 {
@@ -47,7 +47,7 @@ pub(crate) fn is_past(had: bool, way: Way, at: u64) -> bool
     }
 }
 
-/// Returns the sector before which a pass reads backwards that hasn't begun to, or has come down to there, in a run that ends at `end`.
+/// Returns the sector before which the next piece of a run ends that is read backwards. The run ends before sector `end`.
 pub(crate) fn low_of(way: Way, end: u64) -> u64
     ensures { result ≡ low_of way end }
 {

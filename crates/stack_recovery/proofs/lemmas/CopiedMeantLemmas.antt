@@ -75,7 +75,7 @@ module _ (marks : List Bool) (d first : ℕ) (w : StackRecord) (sure : AreSure w
   copied-after p way known scan n (had bytes) after s h left = tt
   copied-after p way known scan n (lost fault) after s h left = lost-way scan.no_scrape d after
   copied-after p way known scan n (again fault) after s h left = tt
-  copied-after p way known scan n (probed behind bytes) after s h left = probed-way p way behind n bytes after known s.may h s.answered left
+  copied-after p way known scan n (probed behind bytes) after s h left = probed-way p way behind n bytes after known s.may.0 h s.answered left
   copied-after p way known scan n (trimmed behind fault) after s h left = trimmed-still way after left known
   copied-after p way known scan n copied after s h left = tt
   copied-after p way known scan n kept after s h left = kept-way (eqb (first + n) scan.turned) scan.no_scrape d after

@@ -204,8 +204,10 @@ returns-in_err-write-in-Ok-clause-err g c =
     let piece = subst (λ (m : ℕ). EachBytes c.pieces.stack c.args.pass.device.0 c.pieces.at m (Ok bytes) c.read_bytes.new.self) number (record { any = c.in-Ok.ensures.any; steady = c.in-Ok.ensures.steady }) in
     let len : length bytes ≡ 512 * n = piece.any.may.read.run.len in
     let count : length bytes / 512 ≡ n = omega (arith, len) in
+    let first = first-run c.pieces.ahead c.next_stretch-run.new.ahead c.next_stretch-run.result c.next_stretch-run.ensures.same c.next_stretch-run.ensures.first in
+    let marked : AreMarked (marks_ahead c.args.ahead) c.pieces.at n false = subst (AreMarked (marks_ahead c.args.ahead) c.pieces.at n) (or-left c.next_stretch-run.result.had (is_copied c.pieces.way c.pieces.at) (sym c.is_past.ensures ∙ c.if-is_past.false)) (marked-next (marks_ahead c.args.ahead) c.pieces.at n c.next_stretch-run.result.count c.next_stretch-run.result.had _ (omega (arith, c.piece_at-piece.ensures.inside)) (c.pieces.invariant.ahead ∙ first)) in
     err-from c.from_residual-in_err-write-in-Ok.result _ Output c.from_residual-in_err-write-in-Ok.ensures.1
-    (fails-output _ _ _ _ _ _ _ _ _ _ u.so_far.under 0 n bytes c.read_bytes.new.self (g.O.BlockDev.state c.write.new.self)
+    (fails-output _ _ _ _ _ _ _ _ _ _ u.so_far.under 0 n bytes c.read_bytes.new.self (g.O.BlockDev.state c.write.new.self) (subst (λ (k : ℕ). AreMarked (marks_ahead c.args.ahead) k n false) (sym (add-zero c.pieces.at)) marked)
     (subst (λ (k : ℕ). EachBytes c.pieces.stack c.args.pass.device.0 k n (Ok bytes) c.read_bytes.new.self) (sym (add-zero c.pieces.at)) piece)
     (subst (λ (k : ℕ). IsWritten (g.O.BlockDev.state c.pieces.out) k n false (g.O.BlockDev.state c.write.new.self)) (sym (add-zero c.pieces.at)) (subst (λ (m : ℕ). IsWritten (g.O.BlockDev.state c.pieces.out) c.pieces.at m false (g.O.BlockDev.state c.write.new.self)) count c.in_err-write-in-Ok.ensures.moved))
     (subst (λ (m : ℕ). (m < (g.O.BlockDev.state c.write.new.self).failures) ⊎ (m ≡ 2 ^ 64 - 1)) u.unfailed c.in_err-write-in-Ok.ensures.fault)
@@ -380,8 +382,10 @@ returns-in_err-write-in-Ok-clause-stopped g c =
     let number : length (take (n * 512) c.pieces.room) / 512 ≡ n = omega (arith, wide) in
     let bytes : List ℕ = c.read_bytes.new.out in
     let piece = subst (λ (m : ℕ). EachBytes c.pieces.stack c.args.pass.device.0 c.pieces.at m (Ok bytes) c.read_bytes.new.self) number (record { any = c.in-Ok.ensures.any; steady = c.in-Ok.ensures.steady }) in
+    let first = first-run c.pieces.ahead c.next_stretch-run.new.ahead c.next_stretch-run.result c.next_stretch-run.ensures.same c.next_stretch-run.ensures.first in
+    let marked : AreMarked (marks_ahead c.args.ahead) c.pieces.at n false = subst (AreMarked (marks_ahead c.args.ahead) c.pieces.at n) (or-left c.next_stretch-run.result.had (is_copied c.pieces.way c.pieces.at) (sym c.is_past.ensures ∙ c.if-is_past.false)) (marked-next (marks_ahead c.args.ahead) c.pieces.at n c.next_stretch-run.result.count c.next_stretch-run.result.had _ (omega (arith, c.piece_at-piece.ensures.inside)) (c.pieces.invariant.ahead ∙ first)) in
     err-from c.from_residual-in_err-write-in-Ok.result _ Output c.from_residual-in_err-write-in-Ok.ensures.1
-    (hands-failed _ _ _ _ _ _ _ _ _ _ _ _ c.pieces.invariant.so_far c.args.listing.now c.pieces.listing c.read_bytes.new.self c.write.new.self 0 n bytes
+    (hands-failed _ _ _ _ _ _ _ _ _ _ _ _ c.pieces.invariant.so_far c.args.listing.now c.pieces.listing c.read_bytes.new.self c.write.new.self 0 n bytes (subst (λ (k : ℕ). AreMarked (marks_ahead c.args.ahead) k n false) (sym (add-zero c.pieces.at)) marked)
     (subst (λ (k : ℕ). EachBytes c.pieces.stack c.args.pass.device.0 k n (Ok bytes) c.read_bytes.new.self) (sym (add-zero c.pieces.at)) piece)
     (subst (λ (k : ℕ). DeviceDoes g.O.BlockDev.state g.O.BlockDev.does c.pieces.out (Write k bytes false) c.write.new.self) (sym (add-zero c.pieces.at)) c.in_err-write-in-Ok.ensures.call))
 
@@ -409,14 +413,14 @@ returns-in_err-note-in-Ok-clause-called g c =
     let u = c.pieces.invariant in
     let count : ℕ = length (take (c.piece_at-piece.result.count * 512) c.pieces.room) / 512 in
     let p = err_from_is_err_and c.from_residual-in_err-note-in-Ok.result c.from_residual-in_err-note-in-Ok.ensures.1 in
-    rw p.1 (inr (record { at = c.pieces.at; copied = u.copied_ahead; left = c.pieces.stack; out = c.pieces.out; first = c.pieces.at; count = count; bytes = c.read_bytes.new.out; so_far = u.called; given = c.in-Ok.ensures.given; rest = inl refl }))
+    rw p.1 (inr (record { at = c.pieces.at; copied = u.copied_ahead; left = c.pieces.stack; out = c.pieces.out; first = c.pieces.at; after = omega arith; count = count; bytes = c.read_bytes.new.out; so_far = u.called; given = c.in-Ok.ensures.given; rest = inl refl }))
 
 pub returns-in_err-write-in-Ok-clause-called : goal.returns-in_err-write-in-Ok-clause-called
 returns-in_err-write-in-Ok-clause-called g c =
     let u = c.pieces.invariant in
     let count : ℕ = length (take (c.piece_at-piece.result.count * 512) c.pieces.room) / 512 in
     let p = err_from_is_err_and c.from_residual-in_err-write-in-Ok.result c.from_residual-in_err-write-in-Ok.ensures.1 in
-    rw p.1 (inr (record { at = c.pieces.at; copied = u.copied_ahead; left = c.pieces.stack; out = c.pieces.out; first = c.pieces.at; count = count; bytes = c.read_bytes.new.out; so_far = u.called; given = c.in-Ok.ensures.given; rest = inr c.in_err-write-in-Ok.ensures.call }))
+    rw p.1 (inr (record { at = c.pieces.at; copied = u.copied_ahead; left = c.pieces.stack; out = c.pieces.out; first = c.pieces.at; after = omega arith; count = count; bytes = c.read_bytes.new.out; so_far = u.called; given = c.in-Ok.ensures.given; rest = inr c.in_err-write-in-Ok.ensures.call }))
 
 pub returns-in_err-lose_run-in-Err-clause-called : goal.returns-in_err-lose_run-in-Err-clause-called
 returns-in_err-lose_run-in-Err-clause-called g c =
@@ -425,8 +429,8 @@ returns-in_err-lose_run-in-Err-clause-called g c =
     let p = err_from_is_err_and c.from_residual-in_err-lose_run-in-Err.result c.from_residual-in_err-lose_run-in-Err.ensures.1 in
     rw p.1 (inl (c.pieces.at, u.copied_ahead, copies-again g.D.BlockDev.state g.D.BlockDev.does (DeviceDoes g.O.BlockDev.state g.O.BlockDev.does) (marks_ahead c.args.ahead) c.args.pass.device.0 c.args.stack.now c.args.out.now c.pieces.at c.pieces.stack c.read_bytes.new.self c.pieces.out u.copied_ahead u.called count c.in-Err.fault c.in-Err.ensures.given))
 
-pub overflow_add-at-else-is_forward : goal.overflow_add-at-else-is_forward
-overflow_add-at-else-is_forward g c =
+pub overflow_add-end : goal.overflow_add-end
+overflow_add-end g c =
     let u = c.pieces.invariant in
     let first = first-run c.pieces.ahead c.next_stretch-run.new.ahead c.next_stretch-run.result c.next_stretch-run.ensures.same c.next_stretch-run.ensures.first in
     let inside = ahead-inside (marks_ahead c.args.ahead) c.pieces.at c.sectors-sectors.result c.next_stretch-run.result.count c.next_stretch-run.result.had _ _ (c.requires.fits ∙ sym u.all) u.ahead first u.within in
@@ -464,22 +468,62 @@ read_behind-requires-clause-room g c =
 pub returns-in_err-behind-clause-err : goal.returns-in_err-behind-clause-err
 returns-in_err-behind-clause-err g c =
     let u = c.pieces.invariant in
+    let before : List Bool = marks_ahead c.args.ahead in
+    let config : Configuration = c.args.stack.now.config in
+    let p = pass_over config c.args.pass.device.0 before in
+    let here : Run = c.next_stretch-run.result in
+    let at : ℕ = c.pieces.at in
+    let first = first-run c.pieces.ahead c.next_stretch-run.new.ahead c.next_stretch-run.result c.next_stretch-run.ensures.same c.next_stretch-run.ensures.first in
+    let inside = ahead-inside (marks_ahead c.args.ahead) c.pieces.at c.sectors-sectors.result c.next_stretch-run.result.count c.next_stretch-run.result.had _ _ (c.requires.fits ∙ sym u.all) u.ahead first u.within in
+    let had : here.had ≡ false = (or-left c.next_stretch-run.result.had (is_copied c.pieces.way c.pieces.at) (sym c.is_past.ensures ∙ c.if-is_past.false)) in
+    let run_end : IsUnreadTo p at (at + here.count) =
+    unread-run config c.args.pass.device.0 before at here.count c.sectors-sectors.result (marks c.next_stretch-run.new.ahead.rest.now)
+    (u.ahead ∙ subst (λ (h : Bool). marks_ahead c.pieces.ahead ≡ replicate here.count h ++ marks c.next_stretch-run.new.ahead.rest.now) had first) (c.requires.fits ∙ sym u.all) u.within
+    inside u.all (subst (λ (h : Bool). BeginsOtherwise h (marks c.next_stretch-run.new.ahead.rest.now)) had c.next_stretch-run.ensures.longest) in
+    let low : ℕ = low_of c.pieces.way (at + here.count) in
+    let low_is : c.low_of-low.result ≡ low = c.low_of-low.ensures in
+    let turned : is_forward c.pieces.way ≡ false = sym c.is_forward.ensures ∙ c.if-is_forward.false in
+    let probed : IsProbedTo p at c.pieces.way low = probed-from p at here.count c.next_stretch-run.ensures.some c.pieces.way turned run_end in
+    let after : at < low = probed-some p at here.count c.next_stretch-run.ensures.some c.pieces.way u.run (or-right here.had (is_copied c.pieces.way at) (sym c.is_past.ensures ∙ c.if-is_past.false)) in
+    let below : low ≤ at + here.count = probed-within p at here.count c.next_stretch-run.ensures.some c.pieces.way u.run run_end in
+    let marked : AreMarked before at (low - at) false = λ j less. run_end.unread j (omega (arith, less, below)) in
+    let marked_low : AreMarked before at (c.low_of-low.result - at) false = subst (λ (k : ℕ). AreMarked before at (k - at) false) (sym low_is) marked in
     let old : Sides = sides c.args.stack.now (g.O.BlockDev.state c.args.out.now) (g.L.Listing.told c.args.listing.now) in
     let now : Sides = sides c.pieces.stack (g.O.BlockDev.state c.pieces.out) (g.L.Listing.told c.pieces.listing) in
     err-from c.from_residual-in_err-behind.result _ c.in_err-behind.field-0.0 c.from_residual-in_err-behind.ensures.1
-    (stops-early (is_some c.args.noted.now) (marks_ahead c.args.ahead) (scanned_by c.args.pass) old now c.pieces.at c.pieces.tally c.pieces.noted c.pieces.way u.so_far.calls u.so_far.under g.D.BlockDev.state g.D.BlockDev.does g.O.BlockDev.state (DeviceDoes g.O.BlockDev.state g.O.BlockDev.does) c.pieces.out c.read_behind.new.out c.read_behind.new.stack c.in_err-behind.field-0.0 refl u.unfailed c.in_err-behind.ensures.err)
+    (stops-early (is_some c.args.noted.now) (marks_ahead c.args.ahead) (scanned_by c.args.pass) old now c.pieces.at c.pieces.tally c.pieces.noted c.pieces.way u.so_far.calls u.so_far.under g.D.BlockDev.state g.D.BlockDev.does g.O.BlockDev.state (DeviceDoes g.O.BlockDev.state g.O.BlockDev.does) c.pieces.out c.read_behind.new.out c.read_behind.new.stack c.in_err-behind.field-0.0 refl u.unfailed c.low_of-low.result marked_low c.in_err-behind.ensures.err)
 
 pub returns-in_err-behind-clause-stopped : goal.returns-in_err-behind-clause-stopped
 returns-in_err-behind-clause-stopped g c =
     let u = c.pieces.invariant in
+    let before : List Bool = marks_ahead c.args.ahead in
+    let config : Configuration = c.args.stack.now.config in
+    let p = pass_over config c.args.pass.device.0 before in
+    let here : Run = c.next_stretch-run.result in
+    let at : ℕ = c.pieces.at in
+    let first = first-run c.pieces.ahead c.next_stretch-run.new.ahead c.next_stretch-run.result c.next_stretch-run.ensures.same c.next_stretch-run.ensures.first in
+    let inside = ahead-inside (marks_ahead c.args.ahead) c.pieces.at c.sectors-sectors.result c.next_stretch-run.result.count c.next_stretch-run.result.had _ _ (c.requires.fits ∙ sym u.all) u.ahead first u.within in
+    let had : here.had ≡ false = (or-left c.next_stretch-run.result.had (is_copied c.pieces.way c.pieces.at) (sym c.is_past.ensures ∙ c.if-is_past.false)) in
+    let run_end : IsUnreadTo p at (at + here.count) =
+    unread-run config c.args.pass.device.0 before at here.count c.sectors-sectors.result (marks c.next_stretch-run.new.ahead.rest.now)
+    (u.ahead ∙ subst (λ (h : Bool). marks_ahead c.pieces.ahead ≡ replicate here.count h ++ marks c.next_stretch-run.new.ahead.rest.now) had first) (c.requires.fits ∙ sym u.all) u.within
+    inside u.all (subst (λ (h : Bool). BeginsOtherwise h (marks c.next_stretch-run.new.ahead.rest.now)) had c.next_stretch-run.ensures.longest) in
+    let low : ℕ = low_of c.pieces.way (at + here.count) in
+    let low_is : c.low_of-low.result ≡ low = c.low_of-low.ensures in
+    let turned : is_forward c.pieces.way ≡ false = sym c.is_forward.ensures ∙ c.if-is_forward.false in
+    let probed : IsProbedTo p at c.pieces.way low = probed-from p at here.count c.next_stretch-run.ensures.some c.pieces.way turned run_end in
+    let after : at < low = probed-some p at here.count c.next_stretch-run.ensures.some c.pieces.way u.run (or-right here.had (is_copied c.pieces.way at) (sym c.is_past.ensures ∙ c.if-is_past.false)) in
+    let below : low ≤ at + here.count = probed-within p at here.count c.next_stretch-run.ensures.some c.pieces.way u.run run_end in
+    let marked : AreMarked before at (low - at) false = λ j less. run_end.unread j (omega (arith, less, below)) in
+    let marked_low : AreMarked before at (c.low_of-low.result - at) false = subst (λ (k : ℕ). AreMarked before at (k - at) false) (sym low_is) marked in
     err-from c.from_residual-in_err-behind.result _ c.in_err-behind.field-0.0 c.from_residual-in_err-behind.ensures.1
-    (stops-handing (DeviceDoes g.O.BlockDev.state g.O.BlockDev.does) (is_some c.args.noted.now) (marks_ahead c.args.ahead) (scanned_by c.args.pass) _ _ c.pieces.at c.pieces.tally c.pieces.noted c.pieces.way c.args.out.now c.pieces.out u.so_far c.args.listing.now c.pieces.listing g.D.BlockDev.state g.D.BlockDev.does g.O.BlockDev.state c.read_behind.new.stack c.read_behind.new.out c.in_err-behind.field-0.0 c.in_err-behind.ensures.err)
+    (stops-handing (DeviceDoes g.O.BlockDev.state g.O.BlockDev.does) (is_some c.args.noted.now) (marks_ahead c.args.ahead) (scanned_by c.args.pass) _ _ c.pieces.at c.pieces.tally c.pieces.noted c.pieces.way c.args.out.now c.pieces.out u.so_far c.args.listing.now c.pieces.listing g.D.BlockDev.state g.D.BlockDev.does g.O.BlockDev.state c.read_behind.new.stack c.read_behind.new.out c.in_err-behind.field-0.0 c.low_of-low.result marked_low c.in_err-behind.ensures.err)
 
 pub returns-in_err-behind-clause-called : goal.returns-in_err-behind-clause-called
 returns-in_err-behind-clause-called g c =
     let u = c.pieces.invariant in
     let q = err_from_is_err_and c.from_residual-in_err-behind.result c.from_residual-in_err-behind.ensures.1 in
-    rw q.1 (stops-called g.D.BlockDev.state g.D.BlockDev.does (DeviceDoes g.O.BlockDev.state g.O.BlockDev.does) (marks_ahead c.args.ahead) c.args.pass.device.0 c.args.stack.now c.args.out.now c.pieces.at c.pieces.stack c.pieces.out u.copied_ahead u.called g.O.BlockDev.state c.read_behind.new.stack c.read_behind.new.out c.in_err-behind.field-0.0 c.in_err-behind.ensures.err)
+    rw q.1 (stops-called g.D.BlockDev.state g.D.BlockDev.does (DeviceDoes g.O.BlockDev.state g.O.BlockDev.does) (marks_ahead c.args.ahead) c.args.pass.device.0 c.args.stack.now c.args.out.now c.pieces.at c.pieces.stack c.pieces.out u.copied_ahead u.called g.O.BlockDev.state c.read_behind.new.stack c.read_behind.new.out c.in_err-behind.field-0.0 c.low_of-low.result c.in_err-behind.ensures.err)
 
 pub pieces-preserved-in-Copied : goal.pieces-preserved-in-Copied
 pieces-preserved-in-Copied g c =

@@ -323,14 +323,14 @@ returns-in_err-mark-in-Ok-clause-called g c =
     let u = c.pieces.invariant in
     let count : ℕ = length (take (c.piece_at-piece.result.count * 512) c.pieces.room) / 512 in
     let p = err_from_is_err_and c.from_residual-in_err-mark-in-Ok.result c.from_residual-in_err-mark-in-Ok.ensures.1 in
-    rw p.1 (inr (record { at = c.pieces.at; copied = ahead 0 0; left = c.pieces.stack; out = c.pieces.out; first = c.pieces.at; count = count; bytes = c.read_bytes.new.out; so_far = u.called; given = c.in-Ok.ensures.given; rest = inl refl }))
+    rw p.1 (inr (record { at = c.pieces.at; copied = ahead 0 0; left = c.pieces.stack; out = c.pieces.out; first = c.pieces.at; after = omega arith; count = count; bytes = c.read_bytes.new.out; so_far = u.called; given = c.in-Ok.ensures.given; rest = inl refl }))
 
 pub returns-in_err-write-in-Ok-clause-called : goal.returns-in_err-write-in-Ok-clause-called
 returns-in_err-write-in-Ok-clause-called g c =
     let u = c.pieces.invariant in
     let count : ℕ = length (take (c.piece_at-piece.result.count * 512) c.pieces.room) / 512 in
     let p = err_from_is_err_and c.from_residual-in_err-write-in-Ok.result c.from_residual-in_err-write-in-Ok.ensures.1 in
-    rw p.1 (inr (record { at = c.pieces.at; copied = ahead 0 0; left = c.pieces.stack; out = c.pieces.out; first = c.pieces.at; count = count; bytes = c.read_bytes.new.out; so_far = u.called; given = c.in-Ok.ensures.given; rest = inr c.in_err-write-in-Ok.ensures.call }))
+    rw p.1 (inr (record { at = c.pieces.at; copied = ahead 0 0; left = c.pieces.stack; out = c.pieces.out; first = c.pieces.at; after = omega arith; count = count; bytes = c.read_bytes.new.out; so_far = u.called; given = c.in-Ok.ensures.given; rest = inr c.in_err-write-in-Ok.ensures.call }))
 
 pub returns-in_err-check_memory-in-Err-clause-called : goal.returns-in_err-check_memory-in-Err-clause-called
 returns-in_err-check_memory-in-Err-clause-called g c =

@@ -46,6 +46,7 @@ returns-in_err-write-in-Ok-clause-err g c =
       behind = first - c.args.at;
       count = n;
       bytes = bytes;
+      ends = omega (arith, c.last_piece-first.ensures.some.0, c.last_piece-first.ensures.some.1);
       answered = subst (λ (k : ℕ). EachBytes c.args.stack.now c.args.d.0 k n (Ok bytes) c.read_bytes.new.self) here piece;
       given = subst (λ (k : ℕ). PieceGives g.D.BlockDev.state g.D.BlockDev.does c.args.stack.now (c.args.d.0, k) n (Ok bytes) c.read_bytes.new.self) here
           (subst (λ (m : ℕ). PieceGives g.D.BlockDev.state g.D.BlockDev.does c.args.stack.now (c.args.d.0, first) m (Ok bytes) c.read_bytes.new.self) number c.in-Ok.ensures.given);
@@ -70,6 +71,7 @@ returns-in_ok-write-in-Ok-clause-ok g c =
       bytes = bytes;
       after = c.last_piece-first.ensures.some.0;
       some = c.last_piece-first.ensures.some.1;
+      alike = subst (λ (x : Configuration). AreAlike x c.args.d.0 first n) c.config.ensures.value c.last_piece-first.ensures.alike;
       answered = piece;
       given = subst (λ (m : ℕ). PieceGives g.D.BlockDev.state g.D.BlockDev.does c.args.stack.now (c.args.d.0, first) m (Ok bytes) c.read_bytes.new.self) number c.in-Ok.ensures.given;
       written = subst (λ (m : ℕ). IsWritten (g.O.BlockDev.state c.args.out.now) first m true (g.O.BlockDev.state c.write.new.self)) count c.in_ok-write-in-Ok.ensures.moved;
