@@ -23,7 +23,8 @@ use Rattle.stack_rules.specs.targets.Verity.{parity_bases}
 use Rattle.stack_meaning.specs.declared.units.CryptUnits.{CryptUnits}
 use Rattle.stack_meaning.specs.Beneath.{below, beneath, said_or}
 use Rattle.stack_meaning.specs.Blocks.{covered_hash, hash_block_at, hash_sectors, hash_start, next_digest, checked_span, block_below, is_ignored, verified_block}
-use Rattle.stack_meaning.specs.Spares.{BlockSources, covered_spare, healed_outcome}
+use Rattle.stack_meaning.specs.Erasures.{covered_spare}
+use Rattle.stack_meaning.specs.Spares.{BlockSources, healed_outcome}
 use Rattle.stack_meaning.specs.targets.Verity.{sources_over}
 use Rattle.stack_meaning.specs.Found.{FoundRecord, Entry}
 use Rattle.stack_meaning.specs.Meaning.{IsShown, Said, content_part, leaf_said, line_said, none_said, said_by_name}

@@ -1,6 +1,8 @@
 pub mod lemmas
 pub mod PathBlockLemmas
+pub mod PathEndLemmas
 pub mod CachedLemmas
+pub mod ColumnLemmas
 pub mod StepLemmas
 pub mod WriteStepLemmas
 pub mod PathLemmas

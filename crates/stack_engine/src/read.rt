@@ -15,9 +15,10 @@ ghost use Rattle.stack_lines.specs.Caches.{IsPlaceOf, hash_stored};
 ghost use Rattle.stack_meaning.specs.Blocks.{is_ignored};
 ghost use Rattle.verified_cache.specs.Cache.{CachedBlock};
 ghost use Rattle.stack_engine.specs.Backings.{leaves_in, IsBacking, Asks, StaysSound, did};
-ghost use Rattle.stack_engine.specs.SectorCalls.{block_of, hash_of, one_asked, place_in, spare_of, sums_of, way_of, whole_data};
+ghost use Rattle.stack_engine.specs.Erasures.{end_of, record_of};
+ghost use Rattle.stack_engine.specs.SectorCalls.{block_of, digest_of, erased_of, hash_of, one_asked, only_of, place_in, spare_of, sums_of, way_of, whole_data};
 ghost use Rattle.stack_engine.specs.ReadSteps.{all_of, CanFill, StepFrom, StepAt, ReadsOn, GivesFrom, GivesAt, GivesAny, GivesData, GivesOnWay, WalksTo, GotAt, GetsBy, extent_wanted, data_wanted, hash_wanted, way_wanted, ChainBy, WalkedBy, ReadsWay, expected_in, block_answer, content_answer};
-ghost use Rattle.stack_engine.specs.Spares.{AddsTo, HealsBy, SettlesBy, other_wanted, spare_wanted, stored_wanted};
+ghost use Rattle.stack_engine.specs.Spares.{AddsTo, AreFound, HealsBy, IsCoveredBy, IsJudged, IsUnjudged, SettlesBy, erased_wanted, known_digest_wanted, only_wanted, other_wanted, spare_wanted, stored_digest_wanted, stored_wanted};
 ghost use Rattle.stack_engine.specs.Keeping.{ReadsAs, ReadsSourceAs};
 ghost use Rattle.stack_engine.specs.Held.{IsHeld};
 
@@ -25,10 +26,13 @@ use crate::backing::Backing;
 use crate::buffer::{fill_zeros, zero_block, zero_sectors};
 use crate::kept_data::kept_data;
 use crate::leaf::read_leaf;
+use crate::losses::{Judged, Losses};
 use crate::path::{Chains, PathBlock, WantedBlock, WantedData, put, stands};
+use crate::path_end::{PathEnd, path_end};
 use crate::rows::{JudgedBlock, NextBlock, alone_as_far, judge, read_as_far, row_len, settle};
 use crate::spare::{
-    LostBlock, add_block, add_stored, can_heal, one_more, other_extent, stored_extent, unhealed,
+    LostBlock, add_block, add_stored, can_heal, covered_by, judge_by, one_more, other_covered,
+    other_extent, own_loss, stored_extent, unhealed,
 };
 use allocation::push;
 use block_device::BlockDev;
@@ -616,7 +620,7 @@ fn add_parity<D: BlockDev>(
     }
 }
 
-/// The spare of a block: the sum of the other blocks of its round and of their parity, if it has the digest.
+/// The spare of a block: that by exclusive-or, or else by erasures.
 #[cycle(read)]
 fn mend<D: BlockDev>(
     config: &Config,
@@ -633,6 +637,38 @@ fn mend<D: BlockDev>(
     ensures cached { StaysSound D.state config.now backing.old backing.new }
     ensures touches { Asks D.state config.now (leaves_of config.now (mapped tree.now.device.0)) backing.old backing.new result }
     ensures given { ReadsOn (DeviceDoes D.state D.does) config.now (spare_of (place_in verity.now tree.now lost.now.index) lost.now.digest) backing.old backing.new (buffer_answer result out.new) }
+{
+    match mend_only(config, backing, verity, tree, lost, out) {
+        Ok(()) => Ok(()),
+        Err(alone) => {
+            if !can_heal(verity, alone) {
+                return Err(alone);
+            }
+            match mend_erased(config, backing, verity, tree, lost, out) {
+                Ok(()) => Ok(()),
+                Err(vain) => Err(unhealed(alone, vain)),
+            }
+        }
+    }
+}
+
+/// The spare of a block as the only lost one of its round: the sum of the other blocks and of their parity, if it has the digest.
+#[cycle(read)]
+fn mend_only<D: BlockDev>(
+    config: &Config,
+    backing: &mut Backing<D>,
+    verity: &Verity,
+    tree: &Tree,
+    lost: &LostBlock,
+    out: &mut [u8],
+) -> Result<(), IoFault>
+    requires stack { IsBacking D.state config.now backing.old }
+    requires block { HasVerifiedBlock config.now verity.now tree.now lost.now.index }
+    requires size { length out.old ≡ verity.now.data_block }
+    ensures reads { GetsBy D.state (only_wanted config.now verity.now lost.now) backing.old backing.new (buffer_answer result out.new) }
+    ensures cached { StaysSound D.state config.now backing.old backing.new }
+    ensures touches { Asks D.state config.now (leaves_of config.now (mapped tree.now.device.0)) backing.old backing.new result }
+    ensures given { ReadsOn (DeviceDoes D.state D.does) config.now (only_of (place_in verity.now tree.now lost.now.index) lost.now.digest) backing.old backing.new (buffer_answer result out.new) }
 {
     let index = lost.index;
     let count = match &verity.parity {
@@ -655,6 +691,311 @@ fn mend<D: BlockDev>(
         return Ok(());
     }
     Err(IoFault::Stack(Fault::Mismatch))
+}
+
+/// The spare of a block by the lost blocks of its round as erasures, if it has the digest.
+#[cycle(read)]
+fn mend_erased<D: BlockDev>(
+    config: &Config,
+    backing: &mut Backing<D>,
+    verity: &Verity,
+    tree: &Tree,
+    lost: &LostBlock,
+    out: &mut [u8],
+) -> Result<(), IoFault>
+    requires stack { IsBacking D.state config.now backing.old }
+    requires block { HasVerifiedBlock config.now verity.now tree.now lost.now.index }
+    requires size { length out.old ≡ verity.now.data_block }
+    ensures reads { GetsBy D.state (erased_wanted config.now verity.now lost.now) backing.old backing.new (buffer_answer result out.new) }
+    ensures cached { StaysSound D.state config.now backing.old backing.new }
+    ensures touches { Asks D.state config.now (leaves_of config.now (mapped tree.now.device.0)) backing.old backing.new result }
+    ensures given { ReadsOn (DeviceDoes D.state D.does) config.now (erased_of (place_in verity.now tree.now lost.now.index) lost.now.digest) backing.old backing.new (buffer_answer result out.new) }
+{
+    let roots = match &verity.parity {
+        None => return Err(IoFault::Stack(Fault::Mismatch)),
+        Some(parity) => parity.roots as usize,
+    };
+    let losses = match find_losses(config, backing, verity, tree, lost.index) {
+        Err(full) => return Err(full),
+        Ok(losses) => losses,
+    };
+    let count = losses.places.len();
+    if count > roots {
+        return Err(losses.vain());
+    }
+    let mut room = [0u8; MOST_STORED];
+    let all = room.as_mut_slice();
+    let sums = &mut all[..count * out.len()];
+    match decode(config, backing, verity, tree, &losses, sums) {
+        Err(fault) => return Err(unhealed(losses.vain(), fault)),
+        Ok(()) => {}
+    }
+    if !losses.are_whole(verity, lost, sums) {
+        return Err(losses.vain());
+    }
+    let size = out.len();
+    out.copy_from_slice(&sums[..size]);
+    Ok(())
+}
+
+/// The lost blocks of the round of a block, itself among them: all, or more than can be restored.
+#[cycle(read)]
+fn find_losses<D: BlockDev>(
+    config: &Config,
+    backing: &mut Backing<D>,
+    verity: &Verity,
+    tree: &Tree,
+    index: u64,
+) -> Result<Losses, IoFault>
+    requires stack { IsBacking D.state config.now backing.old }
+    requires block { HasVerifiedBlock config.now verity.now tree.now index }
+    ensures ok { IfOk result (λ l. (q : Parity) → verity.now.parity ≡ Some q → AreFound config.now verity.now q index (leaves_in D.state backing.old) (leaves_in D.state backing.new) (record_of l)) }
+    ensures err { IfErr result (IsUnjudged config.now verity.now index (leaves_in D.state backing.old) (leaves_in D.state backing.new)) }
+    ensures cached { StaysSound D.state config.now backing.old backing.new }
+    ensures touches { Asks D.state config.now (leaves_of config.now (mapped tree.now.device.0)) backing.old backing.new result }
+{
+    let mut losses = match own_loss(backing.alloc, config, verity, tree, index) {
+        Err(_) => return Err(IoFault::NoMemory),
+        Ok(losses) => losses,
+    };
+    let roots = match &verity.parity {
+        None => return Ok(losses),
+        Some(parity) => parity.roots,
+    };
+    let mut place = 0;
+    while place < 255 - roots && losses.places.len() <= roots as usize {
+        match judge_other(config, backing, verity, tree, place, &mut losses) {
+            Err(full) => return Err(full),
+            Ok(()) => place += 1,
+        }
+    }
+    Ok(losses)
+}
+
+/// Judges the block at a position of the round of a block, unless it is that one, or there is none.
+#[cycle(read)]
+fn judge_other<D: BlockDev>(
+    config: &Config,
+    backing: &mut Backing<D>,
+    verity: &Verity,
+    tree: &Tree,
+    place: u32,
+    losses: &mut Losses,
+) -> Result<(), IoFault>
+    requires stack { IsBacking D.state config.now backing.old }
+    requires block { HasVerifiedBlock config.now verity.now tree.now losses.old.index }
+    ensures cached { StaysSound D.state config.now backing.old backing.new }
+    ensures touches { Asks D.state config.now (leaves_of config.now (mapped tree.now.device.0)) backing.old backing.new result }
+{
+    match other_covered(config, verity, tree, losses.index, place) {
+        None => Ok(()),
+        Some(number) => match judge_block(config, backing, verity, tree, number) {
+            Err(full) => Err(full),
+            Ok(judged) => match losses.note(place, judged) {
+                Err(_) => Err(IoFault::NoMemory),
+                Ok(()) => Ok(()),
+            },
+        },
+    }
+}
+
+/// Whether a covered block is lost, as it and the hash blocks on its path are stored.
+#[cycle(read)]
+fn judge_block<D: BlockDev>(
+    config: &Config,
+    backing: &mut Backing<D>,
+    verity: &Verity,
+    tree: &Tree,
+    number: u64,
+) -> Result<Judged, IoFault>
+    requires stack { IsBacking D.state config.now backing.old }
+    requires block { IsCoveredBy config.now verity.now tree.now number }
+    ensures ok { IfOk result (IsJudged config.now verity.now number (leaves_in D.state backing.old) (leaves_in D.state backing.new)) }
+    ensures err { IfErr result (IsUnjudged config.now verity.now number (leaves_in D.state backing.old) (leaves_in D.state backing.new)) }
+    ensures cached { StaysSound D.state config.now backing.old backing.new }
+    ensures touches { Asks D.state config.now (leaves_of config.now (mapped tree.now.device.0)) backing.old backing.new result }
+{
+    let own = match stored_digest(config, backing, verity, tree, number) {
+        Err(IoFault::Stack(_)) => return Ok(Judged::Lost),
+        Err(IoFault::NoMemory) => return Err(IoFault::NoMemory),
+        Err(IoFault::Device(leaf)) => Err(leaf),
+        Ok(digest) => Ok(digest),
+    };
+    let end = match path_end(config, verity, tree, number) {
+        None => return judge_by(own, None),
+        Some(end) => end,
+    };
+    match known_digest(config, backing, verity, tree, end) {
+        Err(IoFault::Stack(_)) => judge_by(own, None),
+        Err(fault) => Err(fault),
+        Ok(known) => judge_by(own, Some(known)),
+    }
+}
+
+/// The digest of a covered block, as it is stored.
+#[cycle(read)]
+fn stored_digest<D: BlockDev>(
+    config: &Config,
+    backing: &mut Backing<D>,
+    verity: &Verity,
+    tree: &Tree,
+    number: u64,
+) -> Result<Digest, IoFault>
+    requires stack { IsBacking D.state config.now backing.old }
+    requires block { IsCoveredBy config.now verity.now tree.now number }
+    ensures reads { GetsBy D.state (stored_digest_wanted config.now verity.now number) backing.old backing.new result }
+    ensures cached { StaysSound D.state config.now backing.old backing.new }
+    ensures touches { Asks D.state config.now (leaves_of config.now (mapped tree.now.device.0)) backing.old backing.new result }
+{
+    match covered_by(config, verity, tree, number) {
+        None => Err(IoFault::Stack(Fault::Mismatch)),
+        Some(extent) => {
+            let mut room = [0u8; MOST_BLOCK];
+            let all = room.as_mut_slice();
+            let block = &mut all[..extent.sectors as usize * 512];
+            match read_beneath(config, backing, extent.lower, extent.first, block) {
+                Err(fault) => Err(fault),
+                Ok(()) => Ok(verity.salt.digest(block)),
+            }
+        }
+    }
+}
+
+/// The digest that is expected of a verified block, if each hash block on its path, as it is stored, has its own.
+#[cycle(read)]
+fn known_digest<D: BlockDev>(
+    config: &Config,
+    backing: &mut Backing<D>,
+    verity: &Verity,
+    tree: &Tree,
+    end: PathEnd,
+) -> Result<Digest, IoFault>
+    requires stack { IsBacking D.state config.now backing.old }
+    requires block { HasDataBlock config.now verity.now tree.now end.index }
+    requires above { end.above ≤ levels (tree_of verity.now) }
+    ensures reads { GetsBy D.state (known_digest_wanted config.now verity.now (end_of end)) backing.old backing.new result }
+    ensures cached { StaysSound D.state config.now backing.old backing.new }
+    ensures touches { Asks D.state config.now (leaves_of config.now (mapped tree.now.device.0)) backing.old backing.new result }
+    ensures given { ReadsOn (DeviceDoes D.state D.does) config.now (digest_of (place_in verity.now tree.now end.index) (end_of end) 0 verity.now.root) backing.old backing.new result }
+{
+    let index = end.index;
+    let mut digest = verity.root;
+    let mut height = tree.shape.levels();
+    let last = height - end.above;
+    while height > last {
+        height -= 1;
+        let extent = hash_extent(config, verity, tree, height, index);
+        let key = hash_key(tree, height, index);
+        match hash_block(config, backing, key, extent, &verity.salt, &digest) {
+            Err(stops) => return Err(stops),
+            Ok(block) => {
+                digest = digest_in(block.as_slice(), tree.shape.slot_on_path(height, index));
+            }
+        }
+    }
+    Ok(digest)
+}
+
+/// The lost blocks of a round by its other blocks and its parity.
+#[cycle(read)]
+fn decode<D: BlockDev>(
+    config: &Config,
+    backing: &mut Backing<D>,
+    verity: &Verity,
+    tree: &Tree,
+    losses: &Losses,
+    sums: &mut [u8],
+) -> Result<(), IoFault>
+    requires stack { IsBacking D.state config.now backing.old }
+    requires block { HasVerifiedBlock config.now verity.now tree.now losses.now.index }
+    requires size { length sums.old ≡ length losses.now.places.items * verity.now.data_block }
+    ensures cached { StaysSound D.state config.now backing.old backing.new }
+    ensures touches { Asks D.state config.now (leaves_of config.now (mapped tree.now.device.0)) backing.old backing.new result }
+{
+    let count = match &verity.parity {
+        None => return Ok(()),
+        Some(parity) => 255 - parity.roots,
+    };
+    fill_zeros(sums);
+    let mut place = 0;
+    while place < count {
+        match add_kept(config, backing, verity, tree, (losses, place), sums) {
+            Err(unread) => return Err(unread),
+            Ok(()) => place += 1,
+        }
+    }
+    add_columns(config, backing, verity, tree, losses, sums)
+}
+
+/// Adds to the sums of each lost block the block at a position of the round, times its factor, unless it is lost, or there is none.
+#[cycle(read)]
+fn add_kept<D: BlockDev>(
+    config: &Config,
+    backing: &mut Backing<D>,
+    verity: &Verity,
+    tree: &Tree,
+    at: (&Losses, u32),
+    sums: &mut [u8],
+) -> Result<(), IoFault>
+    requires stack { IsBacking D.state config.now backing.old }
+    requires block { HasVerifiedBlock config.now verity.now tree.now at.0.now.index }
+    requires size { length sums.old ≡ length at.0.now.places.items * verity.now.data_block }
+    ensures cached { StaysSound D.state config.now backing.old backing.new }
+    ensures touches { Asks D.state config.now (leaves_of config.now (mapped tree.now.device.0)) backing.old backing.new result }
+{
+    let (losses, place) = at;
+    if losses.has(place) {
+        return Ok(());
+    }
+    match other_extent(config, verity, tree, losses.index, place) {
+        None => Ok(()),
+        Some(extent) => {
+            let mut room = [0u8; MOST_BLOCK];
+            let all = room.as_mut_slice();
+            let block = &mut all[..extent.sectors as usize * 512];
+            match read_beneath(config, backing, extent.lower, extent.first, block) {
+                Err(fault) => Err(fault),
+                Ok(()) => {
+                    losses.add_block(place, block, sums);
+                    Ok(())
+                }
+            }
+        }
+    }
+}
+
+/// Adds to the sums of each lost block the parity of the round, each byte times the factor of its position.
+#[cycle(read)]
+fn add_columns<D: BlockDev>(
+    config: &Config,
+    backing: &mut Backing<D>,
+    verity: &Verity,
+    tree: &Tree,
+    losses: &Losses,
+    sums: &mut [u8],
+) -> Result<(), IoFault>
+    requires stack { IsBacking D.state config.now backing.old }
+    requires block { HasVerifiedBlock config.now verity.now tree.now losses.now.index }
+    requires size { length sums.old ≡ length losses.now.places.items * verity.now.data_block }
+    ensures cached { StaysSound D.state config.now backing.old backing.new }
+    ensures touches { Asks D.state config.now (leaves_of config.now (mapped tree.now.device.0)) backing.old backing.new result }
+{
+    match stored_extent(config, verity, tree, losses.index) {
+        None => Ok(()),
+        Some(stored) => {
+            let mut room = [0u8; MOST_STORED];
+            let all = room.as_mut_slice();
+            let parity = &mut all[..stored.sectors as usize * 512];
+            match read_beneath(config, backing, stored.lower, stored.first, parity) {
+                Err(fault) => Err(fault),
+                Ok(()) => {
+                    let roots = parity.len() / verity.data_block as usize;
+                    losses.add_parity(parity, roots, sums);
+                    Ok(())
+                }
+            }
+        }
+    }
 }
 
 /// A hash block: the one that is kept under its key and that digest, or it is read, checked, and then kept.

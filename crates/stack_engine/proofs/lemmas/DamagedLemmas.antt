@@ -15,7 +15,8 @@ use Rattle.stack_rules.specs.Trees.{block_sectors, tree_of, zero_block}
 use Rattle.stack_config.proofs.lemmas.ParityLineLemmas.{parity-line}
 use Rattle.stack_meaning.specs.Blocks.{block_below, checked, checked_span, covered_hash, data_block_at, hash_block_at, hash_sectors, hash_start, is_ignored, next_digest, verified_block}
 use Rattle.stack_meaning.specs.Outcomes.{Outcome, span, then_outcome}
-use Rattle.stack_meaning.specs.Spares.{BlockSources, covered_block, covered_spare, healed_outcome, spare_block, verified_blocks}
+use Rattle.stack_meaning.specs.Erasures.{covered_spare}
+use Rattle.stack_meaning.specs.Spares.{BlockSources, covered_block, healed_outcome, spare_block, verified_blocks}
 use Rattle.stack_meaning.proofs.lemmas.CheckedLemmas.{checked-digest, checked-same, then-parts}
 use Rattle.stack_meaning.proofs.lemmas.CoveredLemmas.{covered-data, covered-hash, hash-verified}
 use Rattle.stack_meaning.proofs.lemmas.SpareLemmas.{lost-restored}

@@ -14,7 +14,8 @@ use Rattle.stack_meaning.specs.Blocks.{checked}
 use Rattle.stack_meaning.specs.Leaves.{steady_images, AreRead}
 use Rattle.stack_meaning.specs.Outcomes.{Images, Outcome, mismatch, then_outcome}
 use Rattle.stack_meaning.specs.Reading.{Gets, IsCertain}
-use Rattle.stack_meaning.specs.Spares.{added_block, covered_spare, restored_block, round_block, round_parity, summed_blocks, with_parity}
+use Rattle.stack_meaning.specs.Erasures.{covered_spare}
+use Rattle.stack_meaning.specs.Spares.{added_block, restored_block, round_block, round_parity, summed_blocks, with_parity}
 use Rattle.stack_meaning.proofs.lemmas.CheckedLemmas.{checked-same}
 use Rattle.stack_engine.proofs.HealLemmas.{checked-other}
 use Rattle.stack_meaning.proofs.lemmas.LeafListLemmas.{AreRead-none, AreRead-then, AreRead-more, images-kept}
