@@ -36,7 +36,7 @@ use Rattle.stack_lines.specs.Writing.{SomeEncrypt}
 use Rattle.stack_engine.specs.Healing.{IsHealed, IsSettled, healed_result, unhealed}
 use Rattle.stack_engine.specs.declared.losses.Judged.{Judged}
 use Rattle.stack_engine.specs.declared.losses.Judged.TheVariants as is
-use Rattle.stack_engine.specs.Erasures.{LossRecord, added_columns, added_parity, are_whole, column, judge_by, noted, own_loss, vain_fault}
+use Rattle.stack_engine.specs.Erasures.{LossRecord, added_columns, added_parity, are_whole, column, judge_by, no_columns, noted, own_loss, vain_fault}
 use Rattle.stack_engine.specs.LeafCalls.{LeafCall, MakesCalls}
 use Rattle.stack_engine.specs.Restored.{Served, one_more, restored_after}
 use Rattle.verified_cache.specs.Cache.{CachedBlock}
@@ -177,8 +177,8 @@ pub record AreReadTogether (p : DataPlace) (last : List ℕ) (left many : ℕ) :
 -- after a hash block of those bytes; so many data blocks from a place on, of which the first so many are read alone, and those bytes
 -- were read before; the spare of a block, of which a digest is expected, as the only lost block of its round or by erasures, or either;
 -- what is added to sums for it, from a position of its round on; the lost blocks of its round, judged from a position on, and then it;
--- the digest of a verified block, beneath so many hash blocks, when a digest is expected of the next one; and what is added to the sums of
--- the blocks at some positions, from a position on.
+-- the known digest of a covered block; the digest of a verified block, beneath so many hash blocks, when a digest is expected of the next
+-- one; a block by the lost blocks of its round; and what is added to the sums of these, from a position on.
 pub data ReadOf : Type 0 where
   sectors_of : Source → ℕ → ReadOf
   block_of : ExpectedBlock → ReadOf
@@ -191,7 +191,9 @@ pub data ReadOf : Type 0 where
   sums_of : DataPlace → Parity → ℕ → List ℕ → ReadOf
   erased_of : DataPlace → List ℕ → ReadOf
   judged_of : DataPlace → Parity → ℕ → LossRecord → List ℕ → ReadOf
+  known_of : DataPlace → ℕ → ReadOf
   digest_of : DataPlace → PathEnd → ℕ → List ℕ → ReadOf
+  restored_of : DataPlace → Parity → LossRecord → List ℕ → ReadOf
   columns_of : DataPlace → Parity → List ℕ → ℕ → List ℕ → ReadOf
 
 -- data from the root down
@@ -202,18 +204,12 @@ whole_data p next = data_of p (levels (tree_of p.verity)) p.verity.root [] next
 abbrev pub block_at : DataPlace → ℕ → ReadOf
 block_at p k = sectors_of (Below (covered_at p k).lower (covered_at p k).first) (covered_at p k).sectors
 
--- a block that was read, or whose leaf failed, is judged so by the known digest
-abbrev pub IsJudgedBy : List ℕ → Result (List ℕ) IoFault → Option (List ℕ) → Result Judged IoFault → Type 0
+-- a block that was read, or whose leaf failed, is judged so by what the read of its known digest ended in
+abbrev pub IsJudgedBy : List ℕ → Result (List ℕ) IoFault → Result (List ℕ) IoFault → Result Judged IoFault → Type 0
 IsJudgedBy salt (Ok block) known judged = judged ≡ judge_by (Ok (digest salt block)) known
 IsJudgedBy salt (Err (io.Device leaf)) known judged = judged ≡ judge_by (Err leaf) known
 IsJudgedBy salt (Err (io.Stack other)) known judged = ⊥
 IsJudgedBy salt (Err io.NoMemory) known judged = ⊥
-
--- a device's fault, or that memory ran out
-abbrev pub IsNoFaultOfLines : IoFault → Type 0
-IsNoFaultOfLines (io.Stack other) = ⊥
-IsNoFaultOfLines (io.Device leaf) = Unit {0}
-IsNoFaultOfLines io.NoMemory = Unit {0}
 
 -- It is read by these calls, and this is answered: the bytes that the calls gave, or decrypted ones. A block of a `verity` line is
 -- answered only if each block on the way to it has the digest that the block before it, as it was read or kept, has for it; nothing
@@ -321,32 +317,29 @@ pub data ReadCalls (c : Configuration) : ReadOf → List LeafCall → ℕ → �
   -- the positions of the round, in order: more blocks are lost than can be restored, or there is no other block
   judged_many : {from : ℕ} {q : Parity} {l : LossRecord} (p : DataPlace) (i : ℕ) (expected : List ℕ) → q.roots < length l.places → ReadCalls c (judged_of p q i l expected) [] from from (Err (vain_fault l.failed))
   judged_past : {from to : ℕ} {p : DataPlace} {q : Parity} {i : ℕ} {l : LossRecord} {expected : List ℕ} {calls : List LeafCall} {answer : Result (List ℕ) IoFault} → length l.places ≤ q.roots → i < 255 - q.roots → other_number q p.index i ≡ None → ReadCalls c (judged_of p q (suc i) l expected) calls from to answer → ReadCalls c (judged_of p q i l expected) calls from to answer
-  -- a line beneath refuses it; or it is read, or its leaf fails, and its digest is known or not; or the read ends in another fault
+  -- a line beneath refuses it; or memory runs out as it is read; or it is read, or its leaf fails, and then its known digest is read, by
+  -- which it is judged, or which can't be read
   judged_refused : {from mid to k : ℕ} {p : DataPlace} {q : Parity} {i : ℕ} {l : LossRecord} {expected : List ℕ} {calls later : List LeafCall} {other : Fault} {answer : Result (List ℕ) IoFault} → length l.places ≤ q.roots → i < 255 - q.roots → other_number q p.index i ≡ Some k → ReadCalls c (block_at p k) calls from mid (Err (io.Stack other))
       → ReadCalls c (judged_of p q (suc i) (noted l i is.Lost) expected) later mid to answer → ReadCalls c (judged_of p q i l expected) (calls ++ later) from to answer
-  judged_known : {from mid next to k : ℕ} {p : DataPlace} {q : Parity} {i : ℕ} {l : LossRecord} {expected known : List ℕ} {end : PathEnd} {calls path later : List LeafCall} {own : Result (List ℕ) IoFault} {answer : Result (List ℕ) IoFault} (judged : Judged) → length l.places ≤ q.roots → i < 255 - q.roots → other_number q p.index i ≡ Some k
-      → ReadCalls c (block_at p k) calls from mid own → path_end p.verity k ≡ Some end → ReadCalls c (digest_of p end 0 p.verity.root) path mid next (Ok known) → IsJudgedBy p.verity.salt own (Some known) (Ok judged)
-      → ReadCalls c (judged_of p q (suc i) (noted l i judged) expected) later next to answer → ReadCalls c (judged_of p q i l expected) (calls ++ path ++ later) from to answer
-  judged_unknown_unverified : {from mid to k : ℕ} {p : DataPlace} {q : Parity} {i : ℕ} {l : LossRecord} {expected : List ℕ} {calls later : List LeafCall} {own : Result (List ℕ) IoFault} {answer : Result (List ℕ) IoFault} → length l.places ≤ q.roots → i < 255 - q.roots → other_number q p.index i ≡ Some k
-      → ReadCalls c (block_at p k) calls from mid own → path_end p.verity k ≡ None → IsJudgedBy p.verity.salt own None (Ok is.Kept)
-      → ReadCalls c (judged_of p q (suc i) l expected) later mid to answer → ReadCalls c (judged_of p q i l expected) (calls ++ later) from to answer
-  judged_unknown_beneath : {from mid next to k : ℕ} {p : DataPlace} {q : Parity} {i : ℕ} {l : LossRecord} {expected : List ℕ} {calls path later : List LeafCall} {own : Result (List ℕ) IoFault} {end : PathEnd} {other : Fault} {answer : Result (List ℕ) IoFault} → length l.places ≤ q.roots → i < 255 - q.roots → other_number q p.index i ≡ Some k
-      → ReadCalls c (block_at p k) calls from mid own → path_end p.verity k ≡ Some end → ReadCalls c (digest_of p end 0 p.verity.root) path mid next (Err (io.Stack other)) → IsJudgedBy p.verity.salt own None (Ok is.Kept)
-      → ReadCalls c (judged_of p q (suc i) l expected) later next to answer → ReadCalls c (judged_of p q i l expected) (calls ++ path ++ later) from to answer
-  judged_failed_unverified : {from to k : ℕ} {p : DataPlace} {q : Parity} {i : ℕ} {l : LossRecord} {expected : List ℕ} {calls : List LeafCall} {own : Result (List ℕ) IoFault} {fault : IoFault} → length l.places ≤ q.roots → i < 255 - q.roots → other_number q p.index i ≡ Some k
-      → ReadCalls c (block_at p k) calls from to own → path_end p.verity k ≡ None → IsJudgedBy p.verity.salt own None (Err fault) → ReadCalls c (judged_of p q i l expected) calls from to (Err fault)
-  judged_failed_beneath : {from mid to k : ℕ} {p : DataPlace} {q : Parity} {i : ℕ} {l : LossRecord} {expected : List ℕ} {calls path : List LeafCall} {own : Result (List ℕ) IoFault} {end : PathEnd} {other : Fault} {fault : IoFault} → length l.places ≤ q.roots → i < 255 - q.roots → other_number q p.index i ≡ Some k
-      → ReadCalls c (block_at p k) calls from mid own → path_end p.verity k ≡ Some end → ReadCalls c (digest_of p end 0 p.verity.root) path mid to (Err (io.Stack other)) → IsJudgedBy p.verity.salt own None (Err fault) → ReadCalls c (judged_of p q i l expected) (calls ++ path) from to (Err fault)
-  judged_stops : {from mid to k : ℕ} {p : DataPlace} {q : Parity} {i : ℕ} {l : LossRecord} {expected : List ℕ} {end : PathEnd} {calls path : List LeafCall} {own : Result (List ℕ) IoFault} {fault : IoFault} → length l.places ≤ q.roots → i < 255 - q.roots → other_number q p.index i ≡ Some k
-      → ReadCalls c (block_at p k) calls from mid own → path_end p.verity k ≡ Some end → ReadCalls c (digest_of p end 0 p.verity.root) path mid to (Err fault) → IsNoFaultOfLines fault → ReadCalls c (judged_of p q i l expected) (calls ++ path) from to (Err fault)
+  judged_short : {from to k : ℕ} {p : DataPlace} {q : Parity} {i : ℕ} {l : LossRecord} {expected : List ℕ} {calls : List LeafCall} → length l.places ≤ q.roots → i < 255 - q.roots → other_number q p.index i ≡ Some k → ReadCalls c (block_at p k) calls from to (Err io.NoMemory) → ReadCalls c (judged_of p q i l expected) calls from to (Err io.NoMemory)
+  judged_next : {from mid next to k : ℕ} {p : DataPlace} {q : Parity} {i : ℕ} {l : LossRecord} {expected : List ℕ} {calls path later : List LeafCall} {own known answer : Result (List ℕ) IoFault} (judged : Judged) → length l.places ≤ q.roots → i < 255 - q.roots → other_number q p.index i ≡ Some k
+      → ReadCalls c (block_at p k) calls from mid own → ReadCalls c (known_of p k) path mid next known → IsJudgedBy p.verity.salt own known (Ok judged)
+      → ReadCalls c (judged_of p q (suc i) (noted l i judged) expected) later next to answer → ReadCalls c (judged_of p q i l expected) (calls ++ (path ++ later)) from to answer
+  judged_stops : {from mid to k : ℕ} {p : DataPlace} {q : Parity} {i : ℕ} {l : LossRecord} {expected : List ℕ} {calls path : List LeafCall} {own known : Result (List ℕ) IoFault} {fault : IoFault} → length l.places ≤ q.roots → i < 255 - q.roots → other_number q p.index i ≡ Some k
+      → ReadCalls c (block_at p k) calls from mid own → ReadCalls c (known_of p k) path mid to known → IsJudgedBy p.verity.salt own known (Err fault) → ReadCalls c (judged_of p q i l expected) (calls ++ path) from to (Err fault)
   judged_full : {from : ℕ} (p : DataPlace) (q : Parity) (i : ℕ) (l : LossRecord) (expected : List ℕ) → ReadCalls c (judged_of p q i l expected) [] from from (Err io.NoMemory)
-  -- all were judged: the lost blocks are restored, and have their digests or not; or they can't be
-  judged_whole : {from to : ℕ} {p : DataPlace} {q : Parity} {l : LossRecord} {expected sums : List ℕ} {calls : List LeafCall} → length l.places ≤ q.roots → ReadCalls c (columns_of p q l.places 0 (replicate (length l.places * p.verity.data_block) 0)) calls from to (Ok sums) → are_whole p.verity l expected sums ≡ true
-      → ReadCalls c (judged_of p q (255 - q.roots) l expected) calls from to (Ok (column p.verity.data_block sums 0))
-  judged_vain : {from to : ℕ} {p : DataPlace} {q : Parity} {l : LossRecord} {expected sums : List ℕ} {calls : List LeafCall} → length l.places ≤ q.roots → ReadCalls c (columns_of p q l.places 0 (replicate (length l.places * p.verity.data_block) 0)) calls from to (Ok sums) → are_whole p.verity l expected sums ≡ false
-      → ReadCalls c (judged_of p q (255 - q.roots) l expected) calls from to (Err (vain_fault l.failed))
-  judged_undecoded : {from to : ℕ} {p : DataPlace} {q : Parity} {l : LossRecord} (expected : List ℕ) {calls : List LeafCall} {fault : IoFault} → length l.places ≤ q.roots → ReadCalls c (columns_of p q l.places 0 (replicate (length l.places * p.verity.data_block) 0)) calls from to (Err fault)
-      → ReadCalls c (judged_of p q (255 - q.roots) l expected) calls from to (Err (unhealed (vain_fault l.failed) fault))
+  -- all were judged, and the block is restored, or the attempt is in vain
+  judged_all : {from to : ℕ} {p : DataPlace} {q : Parity} {l : LossRecord} {expected : List ℕ} {calls : List LeafCall} {answer : Result (List ℕ) IoFault} → length l.places ≤ q.roots → ReadCalls c (restored_of p q l expected) calls from to answer
+      → ReadCalls c (judged_of p q (255 - q.roots) l expected) calls from to (healed_result (vain_fault l.failed) answer)
+  -- the sums of the lost blocks, which have their digests or not, or can't be read
+  restored_whole : {from to : ℕ} {p : DataPlace} {q : Parity} {l : LossRecord} {expected sums : List ℕ} {calls : List LeafCall} → ReadCalls c (columns_of p q l.places 0 (no_columns p.verity.data_block l.places)) calls from to (Ok sums) → are_whole p.verity l expected sums ≡ true
+      → ReadCalls c (restored_of p q l expected) calls from to (Ok (column p.verity.data_block sums 0))
+  restored_differs : {from to : ℕ} {p : DataPlace} {q : Parity} {l : LossRecord} {expected sums : List ℕ} {calls : List LeafCall} → ReadCalls c (columns_of p q l.places 0 (no_columns p.verity.data_block l.places)) calls from to (Ok sums) → are_whole p.verity l expected sums ≡ false
+      → ReadCalls c (restored_of p q l expected) calls from to (Err (io.Stack why.Mismatch))
+  restored_unread : {from to : ℕ} {p : DataPlace} {q : Parity} {l : LossRecord} (expected : List ℕ) {calls : List LeafCall} {fault : IoFault} → ReadCalls c (columns_of p q l.places 0 (no_columns p.verity.data_block l.places)) calls from to (Err fault) → ReadCalls c (restored_of p q l expected) calls from to (Err fault)
+  -- the known digest: none, if the block isn't verified; or that beneath the hash blocks on its path
+  known_none : {from k : ℕ} {p : DataPlace} → path_end p.verity k ≡ None → ReadCalls c (known_of p k) [] from from (Err (io.Stack why.Mismatch))
+  known_beneath : {from to k : ℕ} {p : DataPlace} {end : PathEnd} {calls : List LeafCall} {answer : Result (List ℕ) IoFault} → path_end p.verity k ≡ Some end → ReadCalls c (digest_of p end 0 p.verity.root) calls from to answer → ReadCalls c (known_of p k) calls from to answer
   -- the digest beneath all hash blocks on the path; or the next of these, which has its own, as it is stored or kept
   digest_found : {from : ℕ} {end : PathEnd} (p : DataPlace) (expected : List ℕ) → ReadCalls c (digest_of p end end.above expected) [] from from (Ok expected)
   digest_next : {from mid to n : ℕ} {p : DataPlace} {end : PathEnd} {expected block : List ℕ} {calls later : List LeafCall} {answer : Result (List ℕ) IoFault} → n < end.above → ReadCalls c (hash_of (expected_hash (at_place p end.index) (levels (tree_of p.verity) - suc n) expected)) calls from mid (Ok block)
@@ -355,7 +348,7 @@ pub data ReadCalls (c : Configuration) : ReadOf → List LeafCall → ℕ → �
   -- the blocks at the positions that aren't lost, in order, and then the parity, which are added to the sums of the lost ones
   columns_past : {from to : ℕ} {p : DataPlace} {q : Parity} {places sums : List ℕ} {i : ℕ} {calls : List LeafCall} {answer : Result (List ℕ) IoFault} → i < 255 - q.roots → (is_among places i ≡ true) ⊎ (other_at p q i ≡ None) → ReadCalls c (columns_of p q places (suc i) sums) calls from to answer → ReadCalls c (columns_of p q places i sums) calls from to answer
   columns_added : {from mid to : ℕ} {p : DataPlace} {q : Parity} {places sums block : List ℕ} {i : ℕ} {e : Extent} {calls later : List LeafCall} {answer : Result (List ℕ) IoFault} → i < 255 - q.roots → is_among places i ≡ false → other_at p q i ≡ Some e → ReadCalls c (sectors_of (Below e.lower e.first) e.sectors) calls from mid (Ok block)
-      → ReadCalls c (columns_of p q places (suc i) (added_columns places i block sums)) later mid to answer → ReadCalls c (columns_of p q places i sums) (calls ++ later) from to answer
+      → ReadCalls c (columns_of p q places (suc i) (added_columns p.verity.data_block places i block sums)) later mid to answer → ReadCalls c (columns_of p q places i sums) (calls ++ later) from to answer
   columns_unread : {from to : ℕ} {p : DataPlace} {q : Parity} {places : List ℕ} {i : ℕ} {e : Extent} (sums : List ℕ) {calls : List LeafCall} {fault : IoFault} → i < 255 - q.roots → is_among places i ≡ false → other_at p q i ≡ Some e → ReadCalls c (sectors_of (Below e.lower e.first) e.sectors) calls from to (Err fault) → ReadCalls c (columns_of p q places i sums) calls from to (Err fault)
   columns_ended : {from to : ℕ} {p : DataPlace} {q : Parity} {x : Lower} {parity : List ℕ} (places sums : List ℕ) {calls : List LeafCall} → p.on_parity ≡ Some x → ReadCalls c (sectors_of (Below x (parity_first p q)) (block_sectors p.verity * q.roots)) calls from to (Ok parity)
       → ReadCalls c (columns_of p q places (255 - q.roots) sums) calls from to (Ok (added_parity places q.roots p.verity.data_block parity sums))

@@ -29,11 +29,11 @@ pub(crate) struct Unread {
     pub(crate) digest: Digest,
 }
 
-/// The lost blocks of the round of a covered block: the number of that block, and the positions of the lost ones in the round, its own
-/// first; those whose leaf failed, and the first such leaf.
+/// The lost blocks of the round of a covered block: that block, and the positions of the lost ones in the round, its own first; those
+/// whose leaf failed, and the first such leaf.
 #[derive(Drop)]
 pub(crate) struct Losses {
-    pub(crate) index: u64,
+    pub(crate) lost: LostBlock,
     pub(crate) places: Vec<usize>,
     pub(crate) unread: Vec<Unread>,
     pub(crate) failed: Option<u32>,
@@ -109,15 +109,15 @@ impl Losses {
         }
     }
 
-    /// Whether a restored block has its digest, and so has each lost one whose leaf failed: then the others were judged as if none had.
-    pub(crate) fn are_whole(&self, verity: &Verity, lost: &LostBlock, sums: &[u8]) -> bool
+    /// Whether the restored block has its digest, and so has each lost one whose leaf failed: then the others were judged as if none had.
+    pub(crate) fn are_whole(&self, verity: &Verity, sums: &[u8]) -> bool
         requires some { 0 < length self.now.places.items }
         requires columns { All (λ one. one.column < length self.now.places.items) self.now.unread.items }
         requires size { length sums.now ≡ length self.now.places.items * verity.now.data_block }
-        ensures { result ≡ are_whole verity.now (record_of self.now) lost.now.digest sums.now }
+        ensures { result ≡ are_whole verity.now (record_of self.now) self.now.lost.digest sums.now }
     {
         let size = verity.data_block as usize;
-        if verity.salt.digest(&sums[..size]) != lost.digest {
+        if verity.salt.digest(&sums[..size]) != self.lost.digest {
             return false;
         }
         for one in &self.unread {

@@ -1,5 +1,5 @@
 //! Reads through the lines of a stack, down to its leaves.
-ghost use Rattle.std.specs.Prelude.{◌≡◌, false, ◌≤◌, ◌<◌, ◌+◌, ◌-◌, ◌*◌, ◌/◌, ◌%◌, length, map, take, get_or, All, OnOk, IfOk, IfErr, Some, Err};
+ghost use Rattle.std.specs.Prelude.{ℕ, ◌≡◌, false, ◌≤◌, ◌<◌, ◌+◌, ◌-◌, ◌*◌, ◌/◌, ◌%◌, length, map, take, get_or, All, OnOk, IfOk, IfErr, Some, Err};
 ghost use Rattle.block_device.specs.Call.{DeviceDoes};
 ghost use Rattle.tree_shape.specs.Shape.{levels};
 ghost use Rattle.dm_table.specs.declared.parity.Parity.{Parity};
@@ -10,15 +10,15 @@ ghost use Rattle.stack_meaning.specs.Reading.{buffer_answer};
 ghost use Rattle.stack_lines.specs.Extents.{LiesInsideLower};
 ghost use Rattle.stack_lines.specs.Touches.{leaves_of};
 ghost use Rattle.stack_engine.specs.Healing.{HealsFault, IsLost, row_answer};
-ghost use Rattle.stack_lines.specs.Walks.{HasDataBlock, HasVerifiedBlock, block_in};
+ghost use Rattle.stack_lines.specs.Walks.{HasDataBlock, HasVerifiedBlock, IsTreeOf, block_in};
 ghost use Rattle.stack_lines.specs.Caches.{IsPlaceOf, hash_stored};
 ghost use Rattle.stack_meaning.specs.Blocks.{is_ignored};
 ghost use Rattle.verified_cache.specs.Cache.{CachedBlock};
 ghost use Rattle.stack_engine.specs.Backings.{leaves_in, IsBacking, Asks, StaysSound, did};
-ghost use Rattle.stack_engine.specs.Erasures.{end_of, record_of};
-ghost use Rattle.stack_engine.specs.SectorCalls.{block_of, digest_of, erased_of, hash_of, one_asked, only_of, place_in, spare_of, sums_of, way_of, whole_data};
+ghost use Rattle.stack_engine.specs.Erasures.{end_of, no_columns, record_of};
+ghost use Rattle.stack_engine.specs.SectorCalls.{block_of, columns_of, digest_of, erased_of, hash_of, known_of, one_asked, only_of, place_in, restored_of, spare_of, sums_of, way_of, whole_data};
 ghost use Rattle.stack_engine.specs.ReadSteps.{all_of, CanFill, StepFrom, StepAt, ReadsOn, GivesFrom, GivesAt, GivesAny, GivesData, GivesOnWay, WalksTo, GotAt, GetsBy, extent_wanted, data_wanted, hash_wanted, way_wanted, ChainBy, WalkedBy, ReadsWay, expected_in, block_answer, content_answer};
-ghost use Rattle.stack_engine.specs.Spares.{AddsTo, AreFound, HealsBy, IsCoveredBy, IsJudged, IsUnjudged, SettlesBy, erased_wanted, known_digest_wanted, only_wanted, other_wanted, spare_wanted, stored_digest_wanted, stored_wanted};
+ghost use Rattle.stack_engine.specs.Spares.{AddsColumns, AddsTo, AreFew, AreFound, AreLossesOf, AreUnfound, DigestBy, FindsNext, HealsBy, IsCoveredBy, IsJudged, IsUnjudged, JudgesBlock, NamesLeaf, SettlesBy, columns_wanted, decoded_wanted, digest_wanted, erased_wanted, failed_of, judge_cost, kept_wanted, known_digest_wanted, only_wanted, other_wanted, restored_wanted, spare_wanted, stored_digest_wanted, stored_wanted};
 ghost use Rattle.stack_engine.specs.Keeping.{ReadsAs, ReadsSourceAs};
 ghost use Rattle.stack_engine.specs.Held.{IsHeld};
 
@@ -641,13 +641,13 @@ fn mend<D: BlockDev>(
     match mend_only(config, backing, verity, tree, lost, out) {
         Ok(()) => Ok(()),
         Err(alone) => {
-            if !can_heal(verity, alone) {
-                return Err(alone);
+            if can_heal(verity, alone) {
+                return match mend_erased(config, backing, verity, tree, lost, out) {
+                    Ok(()) => Ok(()),
+                    Err(vain) => Err(unhealed(alone, vain)),
+                };
             }
-            match mend_erased(config, backing, verity, tree, lost, out) {
-                Ok(()) => Ok(()),
-                Err(vain) => Err(unhealed(alone, vain)),
-            }
+            Err(alone)
         }
     }
 }
@@ -715,27 +715,17 @@ fn mend_erased<D: BlockDev>(
         None => return Err(IoFault::Stack(Fault::Mismatch)),
         Some(parity) => parity.roots as usize,
     };
-    let losses = match find_losses(config, backing, verity, tree, lost.index) {
+    let losses = match find_losses(config, backing, verity, tree, lost) {
         Err(full) => return Err(full),
         Ok(losses) => losses,
     };
-    let count = losses.places.len();
-    if count > roots {
+    if losses.places.len() > roots {
         return Err(losses.vain());
     }
-    let mut room = [0u8; MOST_STORED];
-    let all = room.as_mut_slice();
-    let sums = &mut all[..count * out.len()];
-    match decode(config, backing, verity, tree, &losses, sums) {
-        Err(fault) => return Err(unhealed(losses.vain(), fault)),
-        Ok(()) => {}
+    match restore(config, backing, verity, tree, &losses, out) {
+        Ok(()) => Ok(()),
+        Err(fault) => Err(unhealed(losses.vain(), fault)),
     }
-    if !losses.are_whole(verity, lost, sums) {
-        return Err(losses.vain());
-    }
-    let size = out.len();
-    out.copy_from_slice(&sums[..size]);
-    Ok(())
 }
 
 /// The lost blocks of the round of a block, itself among them: all, or more than can be restored.
@@ -745,16 +735,18 @@ fn find_losses<D: BlockDev>(
     backing: &mut Backing<D>,
     verity: &Verity,
     tree: &Tree,
-    index: u64,
+    lost: &LostBlock,
 ) -> Result<Losses, IoFault>
     requires stack { IsBacking D.state config.now backing.old }
-    requires block { HasVerifiedBlock config.now verity.now tree.now index }
-    ensures ok { IfOk result (λ l. (q : Parity) → verity.now.parity ≡ Some q → AreFound config.now verity.now q index (leaves_in D.state backing.old) (leaves_in D.state backing.new) (record_of l)) }
-    ensures err { IfErr result (IsUnjudged config.now verity.now index (leaves_in D.state backing.old) (leaves_in D.state backing.new)) }
+    requires block { HasVerifiedBlock config.now verity.now tree.now lost.now.index }
+    ensures same { IfOk result (λ l. l.lost ≡ lost.now) }
+    ensures named { IfOk result (λ l. NamesLeaf (leaves_of config.now (mapped tree.now.device.0)) l.failed) }
+    ensures ok { IfOk result (λ l. (q : Parity) → verity.now.parity ≡ Some q → AreFound D.state (DeviceDoes D.state D.does) config.now (place_in verity.now tree.now lost.now.index) q backing.old backing.new (record_of l)) }
+    ensures err { IfErr result (λ fault. (q : Parity) → verity.now.parity ≡ Some q → AreUnfound D.state (DeviceDoes D.state D.does) config.now (place_in verity.now tree.now lost.now.index) q backing.old backing.new fault) }
     ensures cached { StaysSound D.state config.now backing.old backing.new }
     ensures touches { Asks D.state config.now (leaves_of config.now (mapped tree.now.device.0)) backing.old backing.new result }
 {
-    let mut losses = match own_loss(backing.alloc, config, verity, tree, index) {
+    let mut losses = match own_loss(backing.alloc, config, verity, tree, lost) {
         Err(_) => return Err(IoFault::NoMemory),
         Ok(losses) => losses,
     };
@@ -762,8 +754,12 @@ fn find_losses<D: BlockDev>(
         None => return Ok(losses),
         Some(parity) => parity.roots,
     };
+    let count = 255 - roots;
     let mut place = 0;
-    while place < 255 - roots && losses.places.len() <= roots as usize {
+    while place < count {
+        if losses.places.len() > roots as usize {
+            return Ok(losses);
+        }
         match judge_other(config, backing, verity, tree, place, &mut losses) {
             Err(full) => return Err(full),
             Ok(()) => place += 1,
@@ -783,11 +779,15 @@ fn judge_other<D: BlockDev>(
     losses: &mut Losses,
 ) -> Result<(), IoFault>
     requires stack { IsBacking D.state config.now backing.old }
-    requires block { HasVerifiedBlock config.now verity.now tree.now losses.old.index }
+    requires block { HasVerifiedBlock config.now verity.now tree.now losses.old.lost.index }
+    ensures same { OnOk result (losses.new.lost ≡ losses.old.lost) }
+    ensures named { OnOk result (NamesLeaf (leaves_of config.now (mapped tree.now.device.0)) losses.old.failed → NamesLeaf (leaves_of config.now (mapped tree.now.device.0)) losses.new.failed) }
+    ensures finds { (q : Parity) → verity.now.parity ≡ Some q → length losses.old.places.items ≤ q.roots → place < 255 - q.roots
+        → FindsNext D.state (DeviceDoes D.state D.does) config.now (place_in verity.now tree.now losses.old.lost.index) q place (record_of losses.old) (record_of losses.new) backing.old backing.new result }
     ensures cached { StaysSound D.state config.now backing.old backing.new }
     ensures touches { Asks D.state config.now (leaves_of config.now (mapped tree.now.device.0)) backing.old backing.new result }
 {
-    match other_covered(config, verity, tree, losses.index, place) {
+    match other_covered(config, verity, tree, losses.lost.index, place) {
         None => Ok(()),
         Some(number) => match judge_block(config, backing, verity, tree, number) {
             Err(full) => Err(full),
@@ -811,24 +811,23 @@ fn judge_block<D: BlockDev>(
     requires stack { IsBacking D.state config.now backing.old }
     requires block { IsCoveredBy config.now verity.now tree.now number }
     ensures ok { IfOk result (IsJudged config.now verity.now number (leaves_in D.state backing.old) (leaves_in D.state backing.new)) }
-    ensures err { IfErr result (IsUnjudged config.now verity.now number (leaves_in D.state backing.old) (leaves_in D.state backing.new)) }
+    ensures named { IfOk result (λ judged. NamesLeaf (leaves_of config.now (mapped tree.now.device.0)) (failed_of judged)) }
+    ensures err { IfErr result (IsUnjudged (block_in config.now verity.now number) (judge_cost (block_in config.now verity.now number)) (leaves_in D.state backing.old) (leaves_in D.state backing.new)) }
     ensures cached { StaysSound D.state config.now backing.old backing.new }
     ensures touches { Asks D.state config.now (leaves_of config.now (mapped tree.now.device.0)) backing.old backing.new result }
+    ensures given { JudgesBlock (DeviceDoes D.state D.does) config.now verity.now tree.now number backing.old backing.new result }
 {
-    let own = match stored_digest(config, backing, verity, tree, number) {
-        Err(IoFault::Stack(_)) => return Ok(Judged::Lost),
-        Err(IoFault::NoMemory) => return Err(IoFault::NoMemory),
-        Err(IoFault::Device(leaf)) => Err(leaf),
-        Ok(digest) => Ok(digest),
-    };
-    let end = match path_end(config, verity, tree, number) {
-        None => return judge_by(own, None),
-        Some(end) => end,
-    };
-    match known_digest(config, backing, verity, tree, end) {
-        Err(IoFault::Stack(_)) => judge_by(own, None),
-        Err(fault) => Err(fault),
-        Ok(known) => judge_by(own, Some(known)),
+    match stored_digest(config, backing, verity, tree, number) {
+        Err(IoFault::Stack(_)) => Ok(Judged::Lost),
+        Err(IoFault::NoMemory) => Err(IoFault::NoMemory),
+        Err(IoFault::Device(leaf)) => {
+            let known = known_digest(config, backing, verity, tree, number);
+            judge_by(Err(leaf), known)
+        }
+        Ok(own) => {
+            let known = known_digest(config, backing, verity, tree, number);
+            judge_by(Ok(own), known)
+        }
     }
 }
 
@@ -846,6 +845,7 @@ fn stored_digest<D: BlockDev>(
     ensures reads { GetsBy D.state (stored_digest_wanted config.now verity.now number) backing.old backing.new result }
     ensures cached { StaysSound D.state config.now backing.old backing.new }
     ensures touches { Asks D.state config.now (leaves_of config.now (mapped tree.now.device.0)) backing.old backing.new result }
+    ensures given { DigestBy (DeviceDoes D.state D.does) config.now (place_in verity.now tree.now number) number backing.old backing.new result }
 {
     match covered_by(config, verity, tree, number) {
         None => Err(IoFault::Stack(Fault::Mismatch)),
@@ -861,9 +861,31 @@ fn stored_digest<D: BlockDev>(
     }
 }
 
-/// The digest that is expected of a verified block, if each hash block on its path, as it is stored, has its own.
+/// The digest that is expected of a covered block, if each hash block on its path, as it is stored, has its own.
 #[cycle(read)]
 fn known_digest<D: BlockDev>(
+    config: &Config,
+    backing: &mut Backing<D>,
+    verity: &Verity,
+    tree: &Tree,
+    number: u64,
+) -> Result<Digest, IoFault>
+    requires stack { IsBacking D.state config.now backing.old }
+    requires tree { IsTreeOf config.now verity.now tree.now }
+    ensures reads { GetsBy D.state (known_digest_wanted config.now verity.now number) backing.old backing.new result }
+    ensures cached { StaysSound D.state config.now backing.old backing.new }
+    ensures touches { Asks D.state config.now (leaves_of config.now (mapped tree.now.device.0)) backing.old backing.new result }
+    ensures given { (j : ℕ) → ReadsOn (DeviceDoes D.state D.does) config.now (known_of (place_in verity.now tree.now j) number) backing.old backing.new result }
+{
+    match path_end(config, verity, tree, number) {
+        None => Err(IoFault::Stack(Fault::Mismatch)),
+        Some(end) => digest_beneath(config, backing, verity, tree, end),
+    }
+}
+
+/// The digest that is expected of a verified block, if each hash block on its path, as it is stored, has its own.
+#[cycle(read)]
+fn digest_beneath<D: BlockDev>(
     config: &Config,
     backing: &mut Backing<D>,
     verity: &Verity,
@@ -873,10 +895,10 @@ fn known_digest<D: BlockDev>(
     requires stack { IsBacking D.state config.now backing.old }
     requires block { HasDataBlock config.now verity.now tree.now end.index }
     requires above { end.above ≤ levels (tree_of verity.now) }
-    ensures reads { GetsBy D.state (known_digest_wanted config.now verity.now (end_of end)) backing.old backing.new result }
+    ensures reads { GetsBy D.state (digest_wanted config.now verity.now end.index end.above) backing.old backing.new result }
     ensures cached { StaysSound D.state config.now backing.old backing.new }
     ensures touches { Asks D.state config.now (leaves_of config.now (mapped tree.now.device.0)) backing.old backing.new result }
-    ensures given { ReadsOn (DeviceDoes D.state D.does) config.now (digest_of (place_in verity.now tree.now end.index) (end_of end) 0 verity.now.root) backing.old backing.new result }
+    ensures given { (j : ℕ) → ReadsOn (DeviceDoes D.state D.does) config.now (digest_of (place_in verity.now tree.now j) (end_of end) 0 verity.now.root) backing.old backing.new result }
 {
     let index = end.index;
     let mut digest = verity.root;
@@ -896,6 +918,41 @@ fn known_digest<D: BlockDev>(
     Ok(digest)
 }
 
+/// The first of the lost blocks of a round, if it has its digest, and so has each whose leaf failed.
+#[cycle(read)]
+fn restore<D: BlockDev>(
+    config: &Config,
+    backing: &mut Backing<D>,
+    verity: &Verity,
+    tree: &Tree,
+    losses: &Losses,
+    out: &mut [u8],
+) -> Result<(), IoFault>
+    requires stack { IsBacking D.state config.now backing.old }
+    requires block { HasVerifiedBlock config.now verity.now tree.now losses.now.lost.index }
+    requires losses { AreLossesOf verity.now losses.now.lost.index (record_of losses.now) }
+    requires few { AreFew verity.now (record_of losses.now) }
+    requires size { length out.old ≡ verity.now.data_block }
+    ensures reads { (q : Parity) → verity.now.parity ≡ Some q → GetsBy D.state (restored_wanted (block_in config.now verity.now losses.now.lost.index) q (record_of losses.now) losses.now.lost.digest) backing.old backing.new (buffer_answer result out.new) }
+    ensures cached { StaysSound D.state config.now backing.old backing.new }
+    ensures touches { Asks D.state config.now (leaves_of config.now (mapped tree.now.device.0)) backing.old backing.new result }
+    ensures given { (q : Parity) → verity.now.parity ≡ Some q → ReadsOn (DeviceDoes D.state D.does) config.now (restored_of (place_in verity.now tree.now losses.now.lost.index) q (record_of losses.now) losses.now.lost.digest) backing.old backing.new (buffer_answer result out.new) }
+{
+    let size = out.len();
+    let mut room = [0u8; MOST_STORED];
+    let all = room.as_mut_slice();
+    let sums = &mut all[..losses.places.len() * size];
+    match decode(config, backing, verity, tree, losses, sums) {
+        Err(fault) => return Err(fault),
+        Ok(()) => {}
+    }
+    if losses.are_whole(verity, sums) {
+        out.copy_from_slice(&sums[..size]);
+        return Ok(());
+    }
+    Err(IoFault::Stack(Fault::Mismatch))
+}
+
 /// The lost blocks of a round by its other blocks and its parity.
 #[cycle(read)]
 fn decode<D: BlockDev>(
@@ -907,10 +964,13 @@ fn decode<D: BlockDev>(
     sums: &mut [u8],
 ) -> Result<(), IoFault>
     requires stack { IsBacking D.state config.now backing.old }
-    requires block { HasVerifiedBlock config.now verity.now tree.now losses.now.index }
+    requires block { HasVerifiedBlock config.now verity.now tree.now losses.now.lost.index }
+    requires losses { AreLossesOf verity.now losses.now.lost.index (record_of losses.now) }
     requires size { length sums.old ≡ length losses.now.places.items * verity.now.data_block }
+    ensures reads { (q : Parity) → verity.now.parity ≡ Some q → GetsBy D.state (decoded_wanted (block_in config.now verity.now losses.now.lost.index) q losses.now.places.items) backing.old backing.new (buffer_answer result sums.new) }
     ensures cached { StaysSound D.state config.now backing.old backing.new }
     ensures touches { Asks D.state config.now (leaves_of config.now (mapped tree.now.device.0)) backing.old backing.new result }
+    ensures given { (q : Parity) → verity.now.parity ≡ Some q → ReadsOn (DeviceDoes D.state D.does) config.now (columns_of (place_in verity.now tree.now losses.now.lost.index) q losses.now.places.items 0 (no_columns verity.now.data_block losses.now.places.items)) backing.old backing.new (buffer_answer result sums.new) }
 {
     let count = match &verity.parity {
         None => return Ok(()),
@@ -938,16 +998,20 @@ fn add_kept<D: BlockDev>(
     sums: &mut [u8],
 ) -> Result<(), IoFault>
     requires stack { IsBacking D.state config.now backing.old }
-    requires block { HasVerifiedBlock config.now verity.now tree.now at.0.now.index }
+    requires block { HasVerifiedBlock config.now verity.now tree.now at.0.now.lost.index }
+    requires losses { AreLossesOf verity.now at.0.now.lost.index (record_of at.0.now) }
+    requires place { at.1 < 255 }
     requires size { length sums.old ≡ length at.0.now.places.items * verity.now.data_block }
+    ensures reads { (q : Parity) → verity.now.parity ≡ Some q → at.entry.1 < 255 - q.roots → GetsBy D.state (kept_wanted (block_in config.now verity.now at.entry.0.now.lost.index) q at.entry.0.now.places.items at.entry.1 sums.old) backing.old backing.new (buffer_answer result sums.new) }
     ensures cached { StaysSound D.state config.now backing.old backing.new }
     ensures touches { Asks D.state config.now (leaves_of config.now (mapped tree.now.device.0)) backing.old backing.new result }
+    ensures given { (q : Parity) → verity.now.parity ≡ Some q → at.entry.1 < 255 - q.roots → AddsColumns (DeviceDoes D.state D.does) config.now (place_in verity.now tree.now at.entry.0.now.lost.index) q at.entry.0.now.places.items at.entry.1 sums.old backing.old backing.new (buffer_answer result sums.new) }
 {
     let (losses, place) = at;
     if losses.has(place) {
         return Ok(());
     }
-    match other_extent(config, verity, tree, losses.index, place) {
+    match other_extent(config, verity, tree, losses.lost.index, place) {
         None => Ok(()),
         Some(extent) => {
             let mut room = [0u8; MOST_BLOCK];
@@ -975,12 +1039,15 @@ fn add_columns<D: BlockDev>(
     sums: &mut [u8],
 ) -> Result<(), IoFault>
     requires stack { IsBacking D.state config.now backing.old }
-    requires block { HasVerifiedBlock config.now verity.now tree.now losses.now.index }
+    requires block { HasVerifiedBlock config.now verity.now tree.now losses.now.lost.index }
+    requires losses { AreLossesOf verity.now losses.now.lost.index (record_of losses.now) }
     requires size { length sums.old ≡ length losses.now.places.items * verity.now.data_block }
+    ensures reads { (q : Parity) → verity.now.parity ≡ Some q → GetsBy D.state (columns_wanted (block_in config.now verity.now losses.now.lost.index) q losses.now.places.items sums.old) backing.old backing.new (buffer_answer result sums.new) }
     ensures cached { StaysSound D.state config.now backing.old backing.new }
     ensures touches { Asks D.state config.now (leaves_of config.now (mapped tree.now.device.0)) backing.old backing.new result }
+    ensures given { (q : Parity) → verity.now.parity ≡ Some q → ReadsOn (DeviceDoes D.state D.does) config.now (columns_of (place_in verity.now tree.now losses.now.lost.index) q losses.now.places.items (255 - q.roots) sums.old) backing.old backing.new (buffer_answer result sums.new) }
 {
-    match stored_extent(config, verity, tree, losses.index) {
+    match stored_extent(config, verity, tree, losses.lost.index) {
         None => Ok(()),
         Some(stored) => {
             let mut room = [0u8; MOST_STORED];

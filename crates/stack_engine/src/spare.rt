@@ -1,5 +1,5 @@
 //! The spare of a block: the sum, by exclusive-or, of the other blocks of its round and of their parity.
-ghost use Rattle.std.specs.Prelude.{◌≡◌, ◌≤◌, ◌<◌, ◌*◌, ◌/◌, ◌%◌, length, slice_index, IfOk, IfSome, IsSome, OnErr, Some};
+ghost use Rattle.std.specs.Prelude.{◌≡◌, ◌≤◌, ◌<◌, ◌*◌, ◌/◌, ◌%◌, length, slice_index, IfOk, IfSome, IsSome, None, OnErr, Some};
 ghost use Rattle.dm_table.specs.declared.parity.Parity.{Parity};
 ghost use Rattle.dm_table.specs.Grammar.{IsParityOfGrammar};
 ghost use Rattle.stack_rules.specs.Rules.{IsLoaded};
@@ -10,12 +10,11 @@ ghost use Rattle.stack_lines.specs.Extents.{LiesInsideLower};
 ghost use Rattle.stack_lines.specs.Walks.{HasVerifiedBlock};
 ghost use Rattle.allocation.specs.Refusal.{IsOutOfMemory};
 ghost use Rattle.stack_rules.specs.Trees.{round_count};
-ghost use Rattle.stack_lines.specs.Walks.{IsTreeOf};
 ghost use Rattle.stack_engine.specs.Erasures.{judge_by, own_loss, record_of};
-ghost use Rattle.stack_engine.specs.SectorCalls.{other_by, other_in, other_number, place_in};
+ghost use Rattle.stack_engine.specs.SectorCalls.{covered_at, other_by, other_in, other_number, place_in};
 ghost use Rattle.stack_engine.specs.Healing.{can_heal, first_device, unhealed};
 ghost use Rattle.stack_engine.specs.Restored.{one_more};
-ghost use Rattle.stack_engine.specs.Spares.{IsStoredAt};
+ghost use Rattle.stack_engine.specs.Spares.{IsCoveredBy, IsStoredAt};
 
 use crate::losses::{Judged, Losses};
 use allocation::{OutOfMemory, push};
@@ -201,7 +200,7 @@ pub(crate) fn other_covered(
     requires loaded { IsLoaded config.now }
     requires block { HasVerifiedBlock config.now verity.now tree.now index }
     ensures is { result ≡ other_in verity.now.parity index place }
-    ensures inside { (q : Parity) → verity.now.parity ≡ Some q → IfSome result (λ number. number < q.blocks) }
+    ensures covered { IfSome result (IsCoveredBy config.now verity.now tree.now) }
 {
     let (_config, _tree) = (config, tree);
     match &verity.parity {
@@ -210,7 +209,7 @@ pub(crate) fn other_covered(
     }
 }
 
-/// Where a covered block lies, if the line has parity.
+/// Where a covered block lies.
 pub(crate) fn covered_by(
     config: &Config,
     verity: &Verity,
@@ -218,8 +217,8 @@ pub(crate) fn covered_by(
     number: u64,
 ) -> Option<Extent>
     requires loaded { IsLoaded config.now }
-    requires line { IsTreeOf config.now verity.now tree.now }
-    requires inside { (q : Parity) → verity.now.parity ≡ Some q → number < q.blocks }
+    requires block { IsCoveredBy config.now verity.now tree.now number }
+    ensures is { result ≡ Some (covered_at (place_in verity.now tree.now number) number) }
     ensures lies { IfSome result (LiesInsideLower config.now) }
 {
     match &verity.parity {
@@ -243,39 +242,46 @@ pub(crate) fn own_loss(
     config: &Config,
     verity: &Verity,
     tree: &Tree,
-    index: u64,
+    lost: &LostBlock,
 ) -> Result<Losses, OutOfMemory>
     requires loaded { IsLoaded config.now }
-    requires block { HasVerifiedBlock config.now verity.now tree.now index }
-    ensures ok { IfOk result (λ l. (q : Parity) → verity.now.parity ≡ Some q → (l.index ≡ index) × (record_of l ≡ own_loss (index / round_count q))) }
+    requires block { HasVerifiedBlock config.now verity.now tree.now lost.now.index }
+    ensures ok { IfOk result (λ l. l.lost ≡ lost.now) }
+    ensures place { IfOk result (λ l. (q : Parity) → verity.now.parity ≡ Some q → record_of l ≡ own_loss (lost.now.index / round_count q)) }
+    ensures none { IfOk result (λ l. l.failed ≡ None) }
     ensures err { OnErr result (IsOutOfMemory largest_allocation) }
 {
     let (_config, _tree) = (config, tree);
     let place = match &verity.parity {
         None => 0,
-        Some(parity) => place_of(parity, index),
+        Some(parity) => place_of(parity, lost.index),
     };
     let mut places = Vec::new(alloc);
     push(&mut places, place)?;
     Ok(Losses {
-        index,
+        lost: *lost,
         places,
         unread: Vec::new(alloc),
         failed: None,
     })
 }
 
-/// Whether a block is lost that has that digest, or whose leaf failed, if that digest is known of it: one without a known digest isn't
-/// lost, and can't be if its leaf failed.
-pub(crate) fn judge_by(own: Result<Digest, u32>, known: Option<Digest>) -> Result<Judged, IoFault>
+/// Whether a block is lost that has that digest, or whose leaf failed, if the digest that is expected of it could be read: one without a
+/// known digest isn't lost, and can't be if its leaf failed.
+pub(crate) fn judge_by(
+    own: Result<Digest, u32>,
+    known: Result<Digest, IoFault>,
+) -> Result<Judged, IoFault>
     ensures { result ≡ judge_by own known }
 {
     match known {
-        None => match own {
+        Err(IoFault::Stack(_)) => match own {
             Ok(_) => Ok(Judged::Kept),
             Err(leaf) => Err(IoFault::Device(leaf)),
         },
-        Some(digest) => match own {
+        Err(IoFault::Device(failed)) => Err(IoFault::Device(failed)),
+        Err(IoFault::NoMemory) => Err(IoFault::NoMemory),
+        Ok(digest) => match own {
             Ok(made) => Ok(if made == digest {
                 Judged::Kept
             } else {

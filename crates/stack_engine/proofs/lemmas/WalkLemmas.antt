@@ -67,7 +67,7 @@ pub ignored-digest : (v : Verity) (expected : List ℕ) → is_ignored v expecte
 ignored-digest v expected e = (bytes_eq-Decides (digest v.salt (zero_block v)) expected).0 (and_parts v.ignore_zero_blocks _ e).1
 
 -- the leaves beneath one of the devices are some of those beneath all
-hash-in : (b : DataBlock) (i : ℕ) → IsTrue (b.on_hash.leaves i) → IsTrue (block_leaves b i)
+pub hash-in : (b : DataBlock) (i : ℕ) → IsTrue (b.on_hash.leaves i) → IsTrue (block_leaves b i)
 hash-in b i is = ap (λ (x : Bool). b.on_data.leaves i || (x || b.on_parity.leaves i)) is ∙ or-true (b.on_data.leaves i)
 
 data-in : (b : DataBlock) (i : ℕ) → IsTrue (b.on_data.leaves i) → IsTrue (block_leaves b i)
