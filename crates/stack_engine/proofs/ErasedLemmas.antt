@@ -188,7 +188,7 @@ module _ (v : Verity) (q : Parity) (few : q.roots ≤ 24) (from : BlockSources) 
             omega (arith, enough, ap (λ (xs : List ℕ). length xs) is, length-selected (keep v q from j) l.places (length l.places))
 
     -- it is what the code restores of the lost blocks
-    restored-erased : (expected sums : List ℕ) → decoded_columns v q from n l.places ≡ Ok sums → are_whole v l expected sums ≡ true → erasure_spare v q from j expected ≡ Ok (column v.data_block sums 0)
+    pub restored-erased : (expected sums : List ℕ) → decoded_columns v q from n l.places ≡ Ok sums → are_whole v l expected sums ≡ true → erasure_spare v q from j expected ≡ Ok (column v.data_block sums 0)
     restored-erased expected sums decoded whole =
         let parts = and_parts (bytes_eq (digest v.salt (column v.data_block sums 0)) expected) (list_all (λ one. bytes_eq (digest v.salt (column v.data_block sums one.column)) one.digest) l.unread) whole in
         let good = (bytes_eq-Decides (digest v.salt (column v.data_block sums 0)) expected).0 parts.0 in
@@ -204,7 +204,7 @@ module _ (v : Verity) (q : Parity) (few : q.roots ≤ 24) (from : BlockSources) 
           ap (λ (xs : List ℕ). erasures_by v q from j xs) (sym all) ∙ by-few l.places enough ∙ own-column ∙ ap (λ (o : Outcome). changed_outcome (λ s. column v.data_block s 0) o) e
 
       -- if no leaf failed, what isn't restored by the code isn't restored
-      unrestored-erased : (expected : List ℕ) (fault : Fault) → then_outcome (decoded_columns v q from n l.places) (first_whole v l expected) ≡ Err fault → vain_outcome (erasure_spare v q from j expected) ≡ Err mismatch
+      pub unrestored-erased : (expected : List ℕ) (fault : Fault) → then_outcome (decoded_columns v q from n l.places) (first_whole v l expected) ≡ Err fault → vain_outcome (erasure_spare v q from j expected) ≡ Err mismatch
       unrestored-erased expected fault e = go (decoded_columns v q from n l.places) refl e
         where
           tests : (sums : List ℕ) → are_whole v l expected sums ≡ bytes_eq (digest v.salt (column v.data_block sums 0)) expected
@@ -228,7 +228,7 @@ module _ (v : Verity) (q : Parity) (few : q.roots ≤ 24) (from : BlockSources) 
               ∙ vain sums t refl (sym (ap (λ b. cond b (Ok (column v.data_block sums 0)) (Err mismatch)) (tests sums)) ∙ h)
 
   -- more are lost
-  many-erased : (l : LossRecord) (m : ℕ) → m ≤ 255 - q.roots → AreNoted q j (IsJudgedAs v from) m l → l.failed ≡ None → q.roots < length l.places → (expected : List ℕ) → vain_outcome (erasure_spare v q from j expected) ≡ Err mismatch
+  pub many-erased : (l : LossRecord) (m : ℕ) → m ≤ 255 - q.roots → AreNoted q j (IsJudgedAs v from) m l → l.failed ≡ None → q.roots < length l.places → (expected : List ℕ) → vain_outcome (erasure_spare v q from j expected) ≡ Err mismatch
   many-erased l m most noted none many expected =
       let rest : 255 - q.roots - m + m ≡ 255 - q.roots = omega (arith, most) in
       let grown = losses-grow v q from j m (255 - q.roots - m) in

@@ -39,41 +39,38 @@ sure-later b k {old = old} {mid = mid} moved sure = record {
 
 -- the first leaf that failed
 failed-next : {old mid new : List Device} {m n : ℕ} (before : Option ℕ) (judged : Judged) (l : LossRecord) (i : ℕ) → l.failed ≡ before → AreRead old m mid → AreRead mid n new → HasFailedLeaf before old mid → HasFailedLeaf (failed_of judged) mid new → HasFailedLeaf (noted l i judged).failed old new
-failed-next before judged l i is one two h k = go judged k
+failed-next {old = old} {mid = mid} {new = new} before judged l i same one two h k = go judged k
   where
+    later : (o : Option ℕ) → HasFailedLeaf o old mid → HasFailedLeaf o old new
+    later None h = tt
+    later (Some leaf) h = (h.0, failed_earlier two.moved h.1)
+
     kept : HasFailedLeaf before old new
     kept = later before h
-      where
-        later : (o : Option ℕ) → HasFailedLeaf o old mid → HasFailedLeaf o old new
-        later None h = tt
-        later (Some leaf) h = (h.0, failed_earlier two.moved h.1)
 
     first : (o : Option ℕ) (leaf : ℕ) → HasFailedLeaf o old new → (1 ≤ leaf) × LeafFailed (leaf - 1) mid new → HasFailedLeaf (first_failed o leaf) old new
     first None leaf h k = (k.0, failed_later one.moved two.moved k.1)
     first (Some own) leaf h k = h
 
     go : (judged : Judged) → HasFailedLeaf (failed_of judged) mid new → HasFailedLeaf (noted l i judged).failed old new
-    go is.Kept k = subst (λ (o : Option ℕ). HasFailedLeaf o old new) (sym is) kept
-    go is.Lost k = subst (λ (o : Option ℕ). HasFailedLeaf o old new) (sym is) kept
-    go (is.Unread leaf digest) k = subst (λ (o : Option ℕ). HasFailedLeaf (first_failed o leaf) old new) (sym is) (first before leaf kept k)
+    go is.Kept k = subst (λ (o : Option ℕ). HasFailedLeaf o old new) (sym same) kept
+    go is.Lost k = subst (λ (o : Option ℕ). HasFailedLeaf o old new) (sym same) kept
+    go (is.Unread leaf digest) k = subst (λ (o : Option ℕ). HasFailedLeaf (first_failed o leaf) old new) (sym same) (first before leaf kept k)
+
+abbrev pub placed : Configuration → DataPlace → DataBlock
+placed c p = block_in c p.verity p.index
 
 module _ {D : Type 0} (state : D → Device) {does : D → Call → D → Type 0} (c : Configuration) (p : DataPlace) (q : Parity) where
-  abbrev b : DataBlock
-  b = block_in c p.verity p.index
-
-  abbrev own : LossRecord
-  own = own_loss (p.index / round_count q)
-
   -- none yet
-  pub found-none : (old : Backing D) → AreFoundUpTo state does c p q 0 old old own
+  pub found-none : (old : Backing D) → AreFoundUpTo state does c p q 0 old old (own_loss (p.index / round_count q))
   found-none old = record {
     judged = record { moved = AreRead-none _ (leaves_in state old); failed = tt; noted = own_noted };
     given = λ expected. leads-begin _;
   }
 
   module _ {i : ℕ} {l : LossRecord} {first old : Backing D} (so_far : AreFoundUpTo state does c p q i first old l) where
-    step-cost : i * judge_cost b + judge_cost b ≡ suc i * judge_cost b
-    step-cost = let next : suc i ≡ i + 1 = omega arith in let all : (i + 1) * judge_cost b ≡ i * judge_cost b + 1 * judge_cost b = add-mul i 1 (judge_cost b) in omega (arith, all, ap (λ k. k * judge_cost b) next)
+    step-cost : i * judge_cost (placed c p) + judge_cost (placed c p) ≡ suc i * judge_cost (placed c p)
+    step-cost = let next : suc i ≡ i + 1 = omega arith in let all : (i + 1) * judge_cost (placed c p) ≡ i * judge_cost (placed c p) + 1 * judge_cost (placed c p) = add-mul i 1 (judge_cost (placed c p)) in omega (arith, all, ap (λ k. k * judge_cost (placed c p)) next)
 
     -- there is no other block
     pub found-past : length l.places ≤ q.roots → i < 255 - q.roots → other_number q p.index i ≡ None → AreFoundUpTo state does c p q (suc i) first old l
@@ -91,7 +88,7 @@ module _ {D : Type 0} (state : D → Device) {does : D → Call → D → Type 0
           moved = AreRead-more (omega (arith, step-cost)) (AreRead-then so_far.judged.moved h.moved);
           failed = failed-next l.failed judged l i refl so_far.judged.moved h.moved so_far.judged.failed h.failed;
           noted = one_noted so_far.judged.noted next.at
-              (λ sure. subst (λ (images : Images). IsJudgedAs p.verity (sources_of b images) k judged) (images-kept so_far.judged.moved) (h.exact (sure-later b k so_far.judged.moved sure)));
+              (λ sure. subst (λ (images : Images). IsJudgedAs p.verity (sources_of (placed c p) images) k judged) (images-kept so_far.judged.moved) (h.exact (sure-later (placed c p) k so_far.judged.moved sure)));
         };
         given = λ expected. leads-then (so_far.given expected) (calls expected);
       }
@@ -104,13 +101,13 @@ module _ {D : Type 0} (state : D → Device) {does : D → Call → D → Type 0
         given = λ expected. (so_far.given expected).later (served new) (Err fault) (calls expected);
       }
         where
-          most : suc i * judge_cost b ≤ 254 * judge_cost b
-          most = mul-le-mul_right (judge_cost b) (omega (arith, next.low))
+          most : suc i * judge_cost (placed c p) ≤ 254 * judge_cost (placed c p)
+          most = mul-le-mul_right (judge_cost (placed c p)) (omega (arith, next.low))
 
-          moved : AreRead (leaves_in state old) (judge_cost b) (leaves_in state new) → AreRead (leaves_in state first) (254 * judge_cost b) (leaves_in state new)
+          moved : AreRead (leaves_in state old) (judge_cost (placed c p)) (leaves_in state new) → AreRead (leaves_in state first) (254 * judge_cost (placed c p)) (leaves_in state new)
           moved more = AreRead-more (omega (arith, step-cost, most)) (AreRead-then so_far.judged.moved more)
 
-          go : (fault : IoFault) → IsUnjudged (block_in c p.verity k) (judge_cost (block_in c p.verity k)) (leaves_in state old) (leaves_in state new) fault → IsUnjudged b (254 * judge_cost b) (leaves_in state first) (leaves_in state new) fault
+          go : (fault : IoFault) → IsUnjudged (block_in c p.verity k) (judge_cost (block_in c p.verity k)) (leaves_in state old) (leaves_in state new) fault → IsUnjudged (placed c p) (254 * judge_cost (placed c p)) (leaves_in state first) (leaves_in state new) fault
           go (io.Stack other) h = absurd h.may
           go (io.Device leaf) h = record { moved = moved h.moved; may = (h.may.0, failed_later so_far.judged.moved.moved h.moved.moved h.may.1) }
           go io.NoMemory h = record { moved = moved h.moved; may = h.may }
@@ -118,7 +115,7 @@ module _ {D : Type 0} (state : D → Device) {does : D → Call → D → Type 0
   -- no memory for what was noted, or for the first
   pub unfound-full : 2 ≤ q.roots → {i : ℕ} {l : LossRecord} {first new : Backing D} → i ≤ 255 - q.roots → AreFoundUpTo state does c p q i first new l → IsOutOfMemory largest_allocation → AreUnfound state does c p q first new io.NoMemory
   unfound-full some {i = i} {l = l} {new = new} low found refused =
-      let most : i * judge_cost b ≤ 254 * judge_cost b = mul-le-mul_right (judge_cost b) (omega (arith, low)) in
+      let most : i * judge_cost (placed c p) ≤ 254 * judge_cost (placed c p) = mul-le-mul_right (judge_cost (placed c p)) (omega (arith, low)) in
       record {
         judged = record { moved = AreRead-more most found.judged.moved; may = refused };
         given = λ expected. (found.given expected).later (served new) (Err io.NoMemory) (reads-none (judged_full p q i l expected));

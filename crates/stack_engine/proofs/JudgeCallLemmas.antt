@@ -1,5 +1,5 @@
 -- Calls of reads that judge the blocks of a round, and restore the lost ones.
-use Rattle.std.proofs.Common.{◌≡◌, ◌⊎◌, ℕ, suc, ◌+◌, ◌-◌, ◌*◌, ◌<◌, ◌≤◌, Bool, true, false, List, ◌++◌, length, Option, Some, None, Result, Ok, Err, inl, inr, refl, sym, ap, ◌∙◌, arith, subst}
+use Rattle.std.proofs.Common.{◌≡◌, ◌⊎◌, ℕ, suc, ◌+◌, ◌-◌, ◌*◌, ◌/◌, ◌<◌, ◌≤◌, Bool, true, false, List, ◌++◌, length, Option, Some, None, Result, Ok, Err, inl, inr, refl, sym, ap, ◌∙◌, arith, subst}
 use Rattle.block_device.specs.Call.{Call}
 use Rattle.tree_shape.specs.Digests.{digest}
 use Rattle.tree_shape.specs.Shape.{levels}
@@ -29,6 +29,12 @@ use Rattle.stack_engine.specs.Spares.{IsNext, IsStoredAt, JudgesTo}
 use Rattle.stack_engine.proofs.LeafCallLemmas.{makes-then}
 use Rattle.stack_engine.proofs.MendCallLemmas.{leads-then, parity-at}
 use Rattle.stack_engine.proofs.ReadCallLemmas.{reads-none, reads-as, reads-then}
+
+same-level : (n height : ℕ) → 0 < height → height ≤ n → n - suc (n - height) ≡ height - 1
+same-level n height low most = omega (arith, low, most)
+
+next-count : (n height : ℕ) → 0 < height → height ≤ n → suc (n - height) ≡ n - (height - 1)
+next-count n height low most = omega (arith, low, most)
 
 module _ {D : Type 0} {does : D → Call → D → Type 0} {c : Configuration} where
   -- three reads, one after another
@@ -77,28 +83,23 @@ module _ {D : Type 0} {does : D → Call → D → Type 0} {c : Configuration} w
   digest-given {p = p} {end = end} {expected = expected} {old = old} {new = new} all led =
       led.later new (Ok expected) (subst (λ (k : ℕ). ReadsBy does c (digest_of p end k expected) new new (Ok expected)) (sym all) (reads-none (digest_found p expected)))
 
+  at-level : (v : Verity) (tree : Tree) (end : PathEnd) (height : ℕ) → 0 < height → height ≤ levels (tree_of v) → (expected : List ℕ) → {old new : Served D} {answer : Result (List ℕ) IoFault} → ReadsBy does c (hash_of (expected_hash (place_in v tree end.index) (height - 1) expected)) old new answer
+      → ReadsBy does c (hash_of (expected_hash (place_in v tree end.index) (levels (tree_of v) - suc (levels (tree_of v) - height)) expected)) old new answer
+  at-level v tree end height low most expected {old = old} {new = new} {answer = answer} got =
+      subst (λ (l : ℕ). ReadsBy does c (hash_of (expected_hash (place_in v tree end.index) l expected)) old new answer) (sym (same-level (levels (tree_of v)) height low most)) got
+
   -- by the level, counted from the bottom
-  module _ {v : Verity} {tree : Tree} {j : ℕ} {end : PathEnd} {first expected : List ℕ} (height : ℕ) (low : 0 < height) (most : height ≤ levels (tree_of v)) {old mid new : Served D}
+  module _ (v : Verity) (tree : Tree) (j : ℕ) {end : PathEnd} {first expected : List ℕ} (height : ℕ) (low : 0 < height) (most : height ≤ levels (tree_of v)) {old mid new : Served D}
       (led : LeadsTo does c (digest_of (place_in v tree j) end 0 first) (digest_of (place_in v tree j) end (levels (tree_of v) - height) expected) old mid) where
-    same-level : levels (tree_of v) - suc (levels (tree_of v) - height) ≡ height - 1
-    same-level = omega (arith, low, most)
-
-    next-count : suc (levels (tree_of v) - height) ≡ levels (tree_of v) - (height - 1)
-    next-count = omega (arith, low, most)
-
-    at-level : {answer : Result (List ℕ) IoFault} → ReadsBy does c (hash_of (expected_hash (place_in v tree end.index) (height - 1) expected)) mid new answer
-        → ReadsBy does c (hash_of (expected_hash (place_in v tree end.index) (levels (tree_of v) - suc (levels (tree_of v) - height)) expected)) mid new answer
-    at-level {answer = answer} got = subst (λ (l : ℕ). ReadsBy does c (hash_of (expected_hash (place_in v tree end.index) l expected)) mid new answer) (sym same-level) got
-
     pub digest-down : (block : List ℕ) → levels (tree_of v) - height < end.above → ReadsBy does c (hash_of (expected_hash (place_in v tree end.index) (height - 1) expected)) mid new (Ok block)
         → LeadsTo does c (digest_of (place_in v tree j) end 0 first) (digest_of (place_in v tree j) end (levels (tree_of v) - (height - 1)) (next_digest v (height - 1) end.index block)) old new
     digest-down block less got =
-        subst (λ (n : ℕ). LeadsTo does c (digest_of (place_in v tree j) end 0 first) (digest_of (place_in v tree j) end n (next_digest v (height - 1) end.index block)) old new) next-count
-        (subst (λ (l : ℕ). LeadsTo does c (digest_of (place_in v tree j) end 0 first) (digest_of (place_in v tree j) end (suc (levels (tree_of v) - height)) (next_digest v l end.index block)) old new) same-level
-        (digest-led less led (at-level got)))
+        subst (λ (n : ℕ). LeadsTo does c (digest_of (place_in v tree j) end 0 first) (digest_of (place_in v tree j) end n (next_digest v (height - 1) end.index block)) old new) (next-count (levels (tree_of v)) height low most)
+        (subst (λ (l : ℕ). LeadsTo does c (digest_of (place_in v tree j) end 0 first) (digest_of (place_in v tree j) end (suc (levels (tree_of v) - height)) (next_digest v l end.index block)) old new) (same-level (levels (tree_of v)) height low most)
+        (digest-led less led (at-level v tree end height low most expected got)))
 
     pub digest-fails : (fault : IoFault) → levels (tree_of v) - height < end.above → ReadsBy does c (hash_of (expected_hash (place_in v tree end.index) (height - 1) expected)) mid new (Err fault) → ReadsBy does c (digest_of (place_in v tree j) end 0 first) old new (Err fault)
-    digest-fails fault less got = digest-lost less led (at-level got)
+    digest-fails fault less got = digest-lost less led (at-level v tree end height low most expected got)
 
   -- ---- positions of the round
 

@@ -282,25 +282,25 @@ judge-most b = omega (arith, add-mul (levels (tree_of b.verity)) 1 (block_cost b
 
 -- ---- the hash block of a level, counted from the bottom
 
+same-level : (n height : ℕ) → 0 < height → height ≤ n → n - suc (n - height) ≡ height - 1
+same-level n height low most = omega (arith, low, most)
+
+next-count : (n height : ℕ) → 0 < height → height ≤ n → suc (n - height) ≡ n - (height - 1)
+next-count n height low most = omega (arith, low, most)
+
 module _ (c : Configuration) (v : Verity) (tree : Tree) (index : ℕ) (lies : IsTreeOf c v tree) (height : ℕ) (low : 0 < height) (most : height ≤ levels (tree_of v)) (extent : Extent) (at : IsExtent c tree.hash (hash_start v (height - 1) index) (hash_sectors v) extent)
     {expected : List ℕ} {old mid new : List Device} (so_far : IsDigestBeneath (block_in c v index) (levels (tree_of v) - height) expected old mid) where
-  same-level : levels (tree_of v) - suc (levels (tree_of v) - height) ≡ height - 1
-  same-level = omega (arith, low, most)
-
-  next-count : suc (levels (tree_of v) - height) ≡ levels (tree_of v) - (height - 1)
-  next-count = omega (arith, low, most)
-
   stored-read : (result : Result (Vec ℕ Global) IoFault) → Gets (checked_expected bytes (place_of c extent.lower) extent.first extent.sectors v.salt expected) mid new result
       → Gets (hash_read (block_in c v index) (levels (tree_of v) - height) expected) mid new result
   stored-read result got =
-      subst (λ (l : ℕ). Gets (checked_expected bytes (place_named c v.hash) (hash_start v l index) (hash_sectors v) v.salt expected) mid new result) (sym same-level)
+      subst (λ (l : ℕ). Gets (checked_expected bytes (place_named c v.hash) (hash_start v l index) (hash_sectors v) v.salt expected) mid new result) (sym (same-level (levels (tree_of v)) height low most))
       (checked_as c v.hash tree.hash (hash_start v (height - 1) index) (hash_sectors v) v.salt expected result extent lies.on_hash at.value got)
 
   pub beneath-down : (block : Vec ℕ Global) → Gets (checked_expected bytes (place_of c extent.lower) extent.first extent.sectors v.salt expected) mid new (Ok block)
       → IsDigestBeneath (block_in c v index) (levels (tree_of v) - (height - 1)) (next_digest v (height - 1) index block.items) old new
   beneath-down block got =
-      subst (λ (n : ℕ). IsDigestBeneath (block_in c v index) n (next_digest v (height - 1) index block.items) old new) next-count
-      (subst (λ (l : ℕ). IsDigestBeneath (block_in c v index) (suc (levels (tree_of v) - height)) (next_digest v l index block.items) old new) same-level
+      subst (λ (n : ℕ). IsDigestBeneath (block_in c v index) n (next_digest v (height - 1) index block.items) old new) (next-count (levels (tree_of v)) height low most)
+      (subst (λ (l : ℕ). IsDigestBeneath (block_in c v index) (suc (levels (tree_of v) - height)) (next_digest v l index block.items) old new) (same-level (levels (tree_of v)) height low most)
       (beneath-next (block_in c v index) (levels (tree_of v) - height) so_far block (stored-read (Ok block) got)))
 
   pub beneath-fails : (above : ℕ) (fault : IoFault) → levels (tree_of v) - height < above → Gets (checked_expected bytes (place_of c extent.lower) extent.first extent.sectors v.salt expected) mid new (Err fault) → Gets (digest_wanted c v index above) old new (Err fault)

@@ -98,7 +98,7 @@ module _ (b : DataBlock) (q : Parity) (has : b.verity.parity ≡ Some q) where
         now-sure : IsSure b old → IsCertain (restored_wanted b q l expected) mid
         now-sure = sure-for b (restored_wanted b q l expected) judged.moved (λ i on. on) (λ images all. all)
 
-        abbrev from : BlockSources
+        from : BlockSources
         from = sources_of b (steady_images old)
 
         -- what is restored, over the images of before
@@ -114,7 +114,7 @@ module _ (b : DataBlock) (q : Parity) (has : b.verity.parity ≡ Some q) where
             let whole = whole-is b.verity l expected sums.0 bytes sums.2 in
             restored-erased b.verity q few from b.index inside shape (λ k low. sure.agrees.line q has k low) l (noted sure) enough expected sums.0 sums.1 whole.0 ∙ ap Ok whole.1
 
-        failed : (fault : IoFault) (o : Option ℕ) → l.failed ≡ o → HasFailedLeaf o old mid → Gets (restored_wanted b q l expected) mid new (Err fault) → Gets (erased_expected b expected) old new (healed_result (vain_fault o) (Err {A = List ℕ} fault))
+        failed : (fault : IoFault) (o : Option ℕ) → l.failed ≡ o → HasFailedLeaf o old mid → Gets (restored_wanted b q l expected) mid new (Err fault) → Gets (erased_expected b expected) old new (healed_result {A = List ℕ} (vain_fault o) (Err fault))
         failed (io.Stack fault) None e h q' = record {
           moved = moved q'.moved;
           may = tt;
@@ -239,17 +239,17 @@ module _ (b : DataBlock) (expected : List ℕ) where
   spare-settled io.NoMemory settled got = record { moved = AreRead-more (omega (arith, cost-all)) got.moved; may = got.may; exact = λ sure. tt }
 
   -- or by erasures
-  module _ {old mid new : List Device} (verified : b.index < verified_blocks b.verity) where
-    spare-moved : AreRead old (only_expected b expected).cost mid → AreRead mid (erased_expected b expected).cost new → AreRead old wanted.cost new
-    spare-moved one two = AreRead-more cost-all (AreRead-then one two)
+  spare-moved : {old mid new : List Device} → AreRead old (only_expected b expected).cost mid → AreRead mid (erased_expected b expected).cost new → AreRead old wanted.cost new
+  spare-moved one two = AreRead-more cost-all (AreRead-then one two)
 
-    erased-certain : {m : ℕ} → AreRead old m mid → IsSure b old → IsCertain (erased_expected b expected) mid
-    erased-certain moved = sure-for b (erased_expected b expected) moved (λ i on. on) (λ images all. all)
+  erased-certain : {m : ℕ} {old mid : List Device} → AreRead old m mid → IsSure b old → IsCertain (erased_expected b expected) mid
+  erased-certain moved = sure-for b (erased_expected b expected) moved (λ i on. on) (λ images all. all)
 
-    -- over the images of before
-    erased-before : {m : ℕ} → AreRead old m mid → (x : Outcome) → erased_at (steady_images mid) ≡ x → erased_at (steady_images old) ≡ x
-    erased-before moved x is = ap erased_at (sym (images-kept moved)) ∙ is
+  -- over the images of before
+  erased-before : {m : ℕ} {old mid : List Device} → AreRead old m mid → (x : Outcome) → erased_at (steady_images mid) ≡ x → erased_at (steady_images old) ≡ x
+  erased-before moved x is = ap erased_at (sym (images-kept moved)) ∙ is
 
+  module _ {old : List Device} (verified : b.index < verified_blocks b.verity) where
     -- a block that is restored in both ways is the same
     one-restored : (bytes : List ℕ) → IsSure b old → erased_at (steady_images old) ≡ Ok bytes → wanted.means (steady_images old) ≡ Ok bytes
     one-restored bytes sure made =
@@ -272,16 +272,17 @@ module _ (b : DataBlock) (expected : List ℕ) where
         go None none h = let clash : Err mismatch ≡ Ok bytes = h in cc
         go (Some q) has h = by q has (spare_block b.verity q from b.index expected) refl (vain-ok (erasure_spare b.verity q from b.index expected) bytes h)
 
+  module _ {old mid new : List Device} (verified : b.index < verified_blocks b.verity) where
     -- it was restored
     restored-by : (alone : IoFault) → Gets (only_expected b expected) old mid (Err alone) → (bytes : List ℕ) → Gets (erased_expected b expected) mid new (Ok bytes) → Gets wanted old new (Ok bytes)
     restored-by alone own bytes got = record {
       moved = spare-moved own.moved got.moved;
       may = got.may;
-      exact = λ sure. one-restored bytes (spare-sure sure) (erased-before own.moved (Ok bytes) (got.exact (erased-certain own.moved (spare-sure sure))));
+      exact = λ sure. one-restored verified bytes (spare-sure sure) (erased-before own.moved (Ok bytes) (got.exact (erased-certain own.moved (spare-sure sure))));
     }
 
     -- or not
-    unrestored-by : (alone vain : IoFault) → IsHealed b.verity.parity alone → Gets (only_expected b expected) old mid (Err alone) → Gets (erased_expected b expected) mid new (Err vain) → Gets wanted old new (healed_result alone (Err {A = List ℕ} vain))
+    unrestored-by : (alone vain : IoFault) → IsHealed b.verity.parity alone → Gets (only_expected b expected) old mid (Err alone) → Gets (erased_expected b expected) mid new (Err vain) → Gets wanted old new (healed_result {A = List ℕ} alone (Err vain))
     unrestored-by (io.Stack fault) (io.Stack vain) heals own got = record {
       moved = spare-moved own.moved got.moved;
       may = tt;

@@ -2363,7 +2363,7 @@ digest_beneath-returns-in-Err-clause-given g t c j =
     let v = c.args.verity.now in
     let all : c.levels-height.result ≡ levels (tree_of v) = c.levels-height.ensures.value ∙ ap levels c.requires.block.lies.shape_is in
     let inv = c.loop-height.invariant in
-    digest-fails c.loop-height.height (omega (arith, c.loop-height-test.true)) inv.within.1 (inv.given j) c.in-Err.stops (omega (arith, c.loop-height-test.true, all, inv.within.0, inv.within.1, c.requires.above))
+    digest-fails v c.args.tree.now j c.loop-height.height (omega (arith, c.loop-height-test.true)) inv.within.1 (inv.given j) c.in-Err.stops (omega (arith, c.loop-height-test.true, all, inv.within.0, inv.within.1, c.requires.above))
     (reads-expected hash_of (ap (λ (e : Extent). expected_in e v.salt c.loop-height.digest) c.hash_extent-extent.ensures.value) c.in-Err.ensures.given)
 
 pub digest_beneath-loop-height-preserved : goal.digest_beneath-loop-height-preserved
@@ -2389,7 +2389,7 @@ digest_beneath-loop-height-preserved g t c =
       cached = record { capacity = c.in-Ok.ensures.cached.capacity ∙ inv.cached.capacity; sound = c.in-Ok.ensures.cached.sound };
       touches = asks-then inv.touches (asks-as (Ok tt) tt (λ failures. refl) touched);
       given = λ j. subst (λ (d : List ℕ). LeadsTo (DeviceDoes g.D.BlockDev.state g.D.BlockDev.does) config (digest_of (place_in v tree j) (end_of c.args.end) 0 v.root) (digest_of (place_in v tree j) (end_of c.args.end) (levels (tree_of v) - (height - 1)) d) (served c.args.backing.now) (served c.hash_block.new.backing)) (sym next)
-          (digest-down height low inv.within.1 (inv.given j) block.items less (reads-expected hash_of (ap (λ (e : Extent). expected_in e v.salt c.loop-height.digest) c.hash_extent-extent.ensures.value) c.in-Ok.ensures.given));
+          (digest-down v tree j height low inv.within.1 (inv.given j) block.items less (reads-expected hash_of (ap (λ (e : Extent). expected_in e v.salt c.loop-height.digest) c.hash_extent-extent.ensures.value) c.in-Ok.ensures.given));
     }
 
 pub digest_beneath-returns-clause-reads : goal.digest_beneath-returns-clause-reads
