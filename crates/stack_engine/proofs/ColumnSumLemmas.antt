@@ -44,6 +44,10 @@ module _ (size count : ℕ) (sums : List ℕ) (long : length sums ≡ count * si
   pub column-length : length (column size sums k) ≡ size
   column-length = omega (arith, room, length-take size (drop (k * size) sums), length-drop (k * size) sums)
 
+-- the first one
+pub column-first : (size : ℕ) (sums : List ℕ) → column size sums 0 ≡ take size sums
+column-first size sums = let none : 0 * size ≡ 0 = omega arith in ap (λ k. take size (drop k sums)) none
+
 -- a byte of each block times a factor
 scaled-at : (f : ℕ) (block : List ℕ) (c : ℕ) → slice_index (scaled_block f block) c ≡ field_product f (slice_index block c)
 scaled-at f block c = ap (λ d. get_or (scaled_block f block) c d) (sym (none-product f)) ∙ get_or-map (field_product f) block c 0

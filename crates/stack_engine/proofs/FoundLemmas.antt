@@ -22,7 +22,7 @@ use Rattle.stack_engine.specs.declared.losses.Judged.TheVariants as is
 use Rattle.stack_engine.specs.Backings.{leaves_in, served}
 use Rattle.stack_engine.specs.Erasures.{LossRecord, first_failed, noted, own_loss}
 use Rattle.stack_engine.specs.SectorCalls.{DataPlace, judged_full, other_number, place_in}
-use Rattle.stack_engine.specs.Spares.{AreFew, AreFound, AreFoundUpTo, AreJudged, AreLossesOf, AreNoted, AreUnfound, HasFailedLeaf, IsJudged, IsJudgedAs, IsNext, IsSure, IsUnjudged, JudgesTo, block_cost, failed_of, judge_cost, own_noted, none_noted, one_noted}
+use Rattle.stack_engine.specs.Spares.{AreFound, AreFoundUpTo, AreJudged, AreLossesOf, AreNoted, AreUnfound, HasFailedLeaf, IsJudged, IsJudgedAs, IsNext, IsSure, IsUnjudged, JudgesTo, block_cost, failed_of, judge_cost, own_noted, none_noted, one_noted}
 use Rattle.stack_engine.proofs.JudgeCallLemmas.{judging-past}
 use Rattle.stack_engine.proofs.LossLemmas.{noted-below}
 use Rattle.stack_engine.proofs.MendCallLemmas.{leads-then}
@@ -138,9 +138,6 @@ losses-found {p = p} l q has low found =
   where
     same : (x y : Parity) → p.verity.parity ≡ Some x → p.verity.parity ≡ Some y → x ≡ y
     same x y one two = let both : Some x ≡ Some y = sym one ∙ two in cc
-
-pub losses-few : (v : Verity) (l : LossRecord) (q : Parity) → v.parity ≡ Some q → length l.places ≤ q.roots → AreFew v l
-losses-few v l q has low = record { few = λ r other. let both : Some q ≡ Some r = sym has ∙ other in let same : q ≡ r = cc in subst (λ (x : Parity). length l.places ≤ x.roots) same low }
 
 -- if no more are lost than can be restored, all were judged
 pub all-judged : {D : Type 0} {state : D → Device} {does : D → Call → D → Type 0} {c : Configuration} {p : DataPlace} {old new : Backing D} {l : LossRecord} (q : Parity) (found : AreFound state does c p q old new l) → length l.places ≤ q.roots → found.count ≡ 255 - q.roots

@@ -244,10 +244,6 @@ pub record AreLossesOf (v : Verity) (j : ℕ) (l : LossRecord) : Type 0 where
   pub inside : (q : Parity) → v.parity ≡ Some q → EachIndex l.places (λ k. slice_index l.places k < 255 - q.roots)
   pub unread : All (λ one. one.column < length l.places) l.unread
 
--- they can be restored
-pub record AreFew (v : Verity) (l : LossRecord) : Type 0 where
-  pub few : (q : Parity) → v.parity ≡ Some q → length l.places ≤ q.roots
-
 -- sums, to which the block at position i was added, unless it is lost
 abbrev pub kept_wanted : DataBlock → Parity → List ℕ → ℕ → List ℕ → Expected (List ℕ)
 kept_wanted b q places i sums =

@@ -1,5 +1,5 @@
 //! The lost blocks of a round.
-ghost use Rattle.std.specs.Prelude.{ℕ, ◌≡◌, ◌<◌, ◌≤◌, ◌+◌, ◌-◌, ◌*◌, ◌/◌, ◌%◌, All, EachIndex, OnErr, OnOk, length, slice_index};
+ghost use Rattle.std.specs.Prelude.{ℕ, ◌≡◌, ◌<◌, ◌≤◌, ◌+◌, ◌-◌, ◌*◌, ◌/◌, ◌%◌, All, EachIndex, OnErr, OnOk, length, slice_index, take};
 ghost use Rattle.allocation.specs.Refusal.{IsOutOfMemory};
 ghost use Rattle.reed_solomon.specs.Factors.{erasure_factor};
 ghost use Rattle.stack_meaning.specs.Erasures.{is_among};
@@ -109,6 +109,16 @@ impl Losses {
         }
     }
 
+    /// The bytes of the sums of all lost blocks, of that size.
+    pub(crate) fn room(&self, size: usize) -> usize
+        requires few { length self.now.places.items ≤ 24 }
+        requires size { size ≤ 4096 }
+        ensures value { result ≡ length self.now.places.items * size }
+        ensures fits { result ≤ 98304 }
+    {
+        self.places.len() * size
+    }
+
     /// Whether the restored block has its digest, and so has each lost one whose leaf failed: then the others were judged as if none had.
     pub(crate) fn are_whole(&self, verity: &Verity, sums: &[u8]) -> bool
         requires some { 0 < length self.now.places.items }
@@ -128,6 +138,15 @@ impl Losses {
         }
         true
     }
+}
+
+/// Takes the first bytes.
+pub(crate) fn take_first(sums: &[u8], out: &mut [u8])
+    requires { length out.old ≤ length sums.now }
+    ensures { out.new ≡ take (length out.old) sums.now }
+{
+    let size = out.len();
+    out.copy_from_slice(&sums[..size]);
 }
 
 /// The factors of the parity, with so many bytes for a codeword, in the sum that is the byte at a lost position.

@@ -18,7 +18,7 @@ ghost use Rattle.stack_engine.specs.Backings.{leaves_in, IsBacking, Asks, StaysS
 ghost use Rattle.stack_engine.specs.Erasures.{end_of, no_columns, record_of};
 ghost use Rattle.stack_engine.specs.SectorCalls.{block_of, columns_of, digest_of, erased_of, hash_of, known_of, one_asked, only_of, place_in, restored_of, spare_of, sums_of, way_of, whole_data};
 ghost use Rattle.stack_engine.specs.ReadSteps.{all_of, CanFill, StepFrom, StepAt, ReadsOn, GivesFrom, GivesAt, GivesAny, GivesData, GivesOnWay, WalksTo, GotAt, GetsBy, extent_wanted, data_wanted, hash_wanted, way_wanted, ChainBy, WalkedBy, ReadsWay, expected_in, block_answer, content_answer};
-ghost use Rattle.stack_engine.specs.Spares.{AddsColumns, AddsTo, AreFew, AreFound, AreLossesOf, AreUnfound, DigestBy, FindsNext, HealsBy, IsCoveredBy, IsJudged, IsUnjudged, JudgesBlock, NamesLeaf, SettlesBy, columns_wanted, decoded_wanted, digest_wanted, erased_wanted, failed_of, judge_cost, kept_wanted, known_digest_wanted, only_wanted, other_wanted, restored_wanted, spare_wanted, stored_digest_wanted, stored_wanted};
+ghost use Rattle.stack_engine.specs.Spares.{AddsColumns, AddsTo, AreFound, AreLossesOf, AreUnfound, DigestBy, FindsNext, HealsBy, IsCoveredBy, IsJudged, IsUnjudged, JudgesBlock, NamesLeaf, SettlesBy, columns_wanted, decoded_wanted, digest_wanted, erased_wanted, failed_of, judge_cost, kept_wanted, known_digest_wanted, only_wanted, other_wanted, restored_wanted, spare_wanted, stored_digest_wanted, stored_wanted};
 ghost use Rattle.stack_engine.specs.Keeping.{ReadsAs, ReadsSourceAs};
 ghost use Rattle.stack_engine.specs.Held.{IsHeld};
 
@@ -26,7 +26,7 @@ use crate::backing::Backing;
 use crate::buffer::{fill_zeros, zero_block, zero_sectors};
 use crate::kept_data::kept_data;
 use crate::leaf::read_leaf;
-use crate::losses::{Judged, Losses};
+use crate::losses::{Judged, Losses, take_first};
 use crate::path::{Chains, PathBlock, WantedBlock, WantedData, put, stands};
 use crate::path_end::{PathEnd, path_end};
 use crate::rows::{JudgedBlock, NextBlock, alone_as_far, judge, read_as_far, row_len, settle};
@@ -931,7 +931,7 @@ fn restore<D: BlockDev>(
     requires stack { IsBacking D.state config.now backing.old }
     requires block { HasVerifiedBlock config.now verity.now tree.now losses.now.lost.index }
     requires losses { AreLossesOf verity.now losses.now.lost.index (record_of losses.now) }
-    requires few { AreFew verity.now (record_of losses.now) }
+    requires few { length losses.now.places.items ≤ 24 }
     requires size { length out.old ≡ verity.now.data_block }
     ensures reads { (q : Parity) → verity.now.parity ≡ Some q → GetsBy D.state (restored_wanted (block_in config.now verity.now losses.now.lost.index) q (record_of losses.now) losses.now.lost.digest) backing.old backing.new (buffer_answer result out.new) }
     ensures cached { StaysSound D.state config.now backing.old backing.new }
@@ -941,13 +941,13 @@ fn restore<D: BlockDev>(
     let size = out.len();
     let mut room = [0u8; MOST_STORED];
     let all = room.as_mut_slice();
-    let sums = &mut all[..losses.places.len() * size];
+    let sums = &mut all[..losses.room(size)];
     match decode(config, backing, verity, tree, losses, sums) {
         Err(fault) => return Err(fault),
         Ok(()) => {}
     }
     if losses.are_whole(verity, sums) {
-        out.copy_from_slice(&sums[..size]);
+        take_first(sums, out);
         return Ok(());
     }
     Err(IoFault::Stack(Fault::Mismatch))

@@ -77,7 +77,7 @@ use Rattle.stack_lines.proofs.lemmas.TouchLemmas.{data-within}
 use Rattle.stack_lines.proofs.lemmas.AskLemmas.{asks-less, asks-none, asks-then, asks-as, asks-up}
 use Rattle.stack_engine.proofs.TouchedLemmas.{extent-touched, same-within, hash-touched, data-touched}
 use Rattle.stack_engine.specs.Backings.{did, backing_of, served}
-use Rattle.stack_engine.specs.Restored.{serving}
+use Rattle.stack_engine.specs.Restored.{serving, Served}
 use Rattle.stack_engine.specs.ReadSteps.{run_beneath, IsReadStep}
 use Rattle.stack_engine.proofs.StepLemmas.{met, step-met, step-none, below-step, units-step, part-step, zeros-step, fails-step, leaf-step, device-begin, device-step-ok, device-step-err}
 use Rattle.std.proofs.Math.Nat.{mul-le-mul_right, mul-div_cancel, mul-mod_left}
@@ -98,7 +98,7 @@ use Rattle.stack_engine.proofs.MendCallLemmas.{leads-then, other-added, other-lo
 use Rattle.stack_engine.proofs.lemmas.MendLemmas.{IsSummed, only-differs, only-ends, only-none, stored-fails, summed-fails, summed-more, summed-none}
 use Rattle.stack_engine.proofs.lemmas.RoundLemmas.{is-round, mend-inside, other-given, other-none, other-of, other-read, other-unread, parity-of, stored-count, stored-read, stored-unread, few-lost, many-lost, same-roots}
 use Rattle.block_device.specs.Device.{Device}
-use Rattle.stack_engine.specs.Erasures.{LossRecord, added_columns, added_parity, end_of, judge_by, no_columns, record_of, vain_fault}
+use Rattle.stack_engine.specs.Erasures.{LossRecord, added_columns, added_parity, end_of, judge_by, no_columns, record_of, vain_fault, column}
 use Rattle.stack_engine.specs.declared.losses.Judged.{Judged}
 use Rattle.stack_engine.specs.declared.spare.LostBlock.{LostBlock}
 use Rattle.stack_engine.specs.declared.backing.Backing.{Backing}
@@ -106,12 +106,13 @@ use Rattle.stack_meaning.specs.declared.fault.Fault.{Fault}
 use Rattle.stack_meaning.specs.Erasures.{is_among}
 use Rattle.stack_engine.proofs.PathEndLemmas.{end-verified}
 use Rattle.stack_engine.proofs.JudgeLemmas.{IsDigestBeneath, beneath-begins, beneath-down, beneath-ends, beneath-fails, judge-fits, judge-most, judged-read, judged-refused, judged-short, judged-unread, known-beneath, known-none, unjudged-read, unjudged-unread}
-use Rattle.stack_engine.proofs.JudgeCallLemmas.{column-added, column-lost, column-past, columns-given, columns-lost, digest-down, digest-fails, digest-given, erased-given, erased-past, erased-unjudged, erased-vain, judges-by, judges-refused, judges-short, known-given, known-past, restored-lost, restored-other}
+use Rattle.stack_engine.proofs.JudgeCallLemmas.{column-added, column-lost, column-past, columns-given, columns-lost, digest-down, digest-fails, digest-given, erased-given, erased-past, erased-unjudged, erased-vain, judges-by, judges-refused, judges-short, known-given, known-past, restored-lost, restored-other, restored-given}
 use Rattle.stack_engine.proofs.StoredLemmas.{extent-is, stored-asks, stored-calls, stored-deep, stored-had, stored-lacks}
-use Rattle.stack_engine.proofs.FoundLemmas.{all-judged, found-next, found-none, found-past, losses-few, losses-found, unfound-full, unfound-next}
+use Rattle.stack_engine.proofs.FoundLemmas.{all-judged, found-next, found-none, found-past, losses-found, unfound-full, unfound-next}
 use Rattle.stack_engine.proofs.MendedLemmas.{erased-all, erased-many, erased-none, erased-unfound, spare-mended, spare-only, spare-settled}
-use Rattle.stack_engine.proofs.DecodeLemmas.{AreSummed, columns-read, columns-unread, kept-apart, kept-lost, kept-none, kept-read, kept-unread, restored-differs, restored-fails, sums-begin, sums-end, sums-more, sums-stop}
+use Rattle.stack_engine.proofs.DecodeLemmas.{AreSummed, columns-read, columns-unread, kept-apart, kept-lost, kept-none, kept-read, kept-unread, restored-differs, restored-fails, sums-begin, sums-end, sums-more, sums-stop, restored-whole}
 use Rattle.stack_engine.specs.declared.losses.Judged.TheVariants.{Lost}
+use Rattle.stack_engine.proofs.ColumnSumLemmas.{column-first, column-length}
 use Rattle.stack_engine.proofs.read.+read.Goals as goal
 
 pub read_device-overflow_add-first : goal.read_device-overflow_add-first
@@ -2320,6 +2321,12 @@ digest_beneath-loop-height-init g t c =
 pub digest_beneath-hash_key-key-requires : goal.digest_beneath-hash_key-key-requires
 digest_beneath-hash_key-key-requires g t c = subst (λ (k : ℕ). c.args.end.index < k) (sym (ap (λ (s : ShapeRecord). s.blocks) c.requires.block.lies.shape_is)) c.requires.block.there
 
+pub digest_beneath-hash_extent-extent-requires-clause-level : goal.digest_beneath-hash_extent-extent-requires-clause-level
+digest_beneath-hash_extent-extent-requires-clause-level g t c = omega (arith, c.loop-height-test.true, c.loop-height.invariant.within.1)
+
+pub digest_beneath-returns-clause-cached : goal.digest_beneath-returns-clause-cached
+digest_beneath-returns-clause-cached g t c = c.loop-height.invariant.cached
+
 pub digest_beneath-hash_block-requires : goal.digest_beneath-hash_block-requires
 digest_beneath-hash_block-requires g t c κs within =
     let config = c.args.config.now in
@@ -2422,23 +2429,20 @@ pub judge_block-known_digest-known-requires : goal.judge_block-known_digest-know
 judge_block-known_digest-known-requires g t c κs within =
     (omega arith, (within, (stack-later c.args.config.now c.stored_digest.ensures.reads.moved.moved.fixed c.requires.stack c.stored_digest.ensures.cached, c.requires.block.lies)))
 
-pub judge_block-known_digest-known-in-Ok-requires : goal.judge_block-known_digest-known-in-Ok-requires
-judge_block-known_digest-known-in-Ok-requires g t c κs within =
+pub judge_block-known_digest-known-requires-in-Ok : goal.judge_block-known_digest-known-requires-in-Ok
+judge_block-known_digest-known-requires-in-Ok g t c κs within =
     (omega arith, (within, (stack-later c.args.config.now c.stored_digest.ensures.reads.moved.moved.fixed c.requires.stack c.stored_digest.ensures.cached, c.requires.block.lies)))
 
 -- its own read ended in a fault of a line, or in memory's
-refused-digest : {c : Configuration} {v : Verity} {k : ℕ} {old new : List Device} {e : IoFault} {fault : Fault} → e ≡ Stack fault → Gets (stored_digest_wanted c v k) old new (Err e) → Gets (stored_digest_wanted c v k) old new (Err (Stack fault))
-refused-digest {c = c} {v = v} {k = k} {old = old} {new = new} is got = subst (λ (e : IoFault). Gets (stored_digest_wanted c v k) old new (Err e)) is got
+fault-digest : (c : Configuration) (v : Verity) (k : ℕ) {old new : List Device} {e other : IoFault} → e ≡ other → Gets (stored_digest_wanted c v k) old new (Err e) → Gets (stored_digest_wanted c v k) old new (Err other)
+fault-digest c v k {old = old} {new = new} is got = subst (λ (e : IoFault). Gets (stored_digest_wanted c v k) old new (Err e)) is got
 
-fault-digest : {c : Configuration} {v : Verity} {k : ℕ} {old new : List Device} {e other : IoFault} → e ≡ other → Gets (stored_digest_wanted c v k) old new (Err e) → Gets (stored_digest_wanted c v k) old new (Err other)
-fault-digest {c = c} {v = v} {k = k} {old = old} {new = new} is got = subst (λ (e : IoFault). Gets (stored_digest_wanted c v k) old new (Err e)) is got
-
-fault-reads : {D : Type 0} {does : D → Call → D → Type 0} {c : Configuration} {p : DataPlace} {k : ℕ} {old new : Backing D} {e other : IoFault} → e ≡ other → ReadsOn does c (block_at p k) old new (Err e) → ReadsOn does c (block_at p k) old new (Err other)
-fault-reads {does = does} {c = c} {p = p} {k = k} {old = old} {new = new} is got = subst (λ (e : IoFault). ReadsOn does c (block_at p k) old new (Err e)) is got
+fault-reads : {D : Type 0} {does : D → Call → D → Type 0} (c : Configuration) (p : DataPlace) (k : ℕ) {old new : Served D} {e other : IoFault} → e ≡ other → ReadsBy does c (block_at p k) old new (Err e) → ReadsBy does c (block_at p k) old new (Err other)
+fault-reads {does = does} c p k {old = old} {new = new} is got = subst (λ (e : IoFault). ReadsBy does c (block_at p k) old new (Err e)) is got
 
 pub judge_block-returns-in-Err-Stack-clause-ok : goal.judge_block-returns-in-Err-Stack-clause-ok
 judge_block-returns-in-Err-Stack-clause-ok g t c =
-    judged-refused c.args.config.now c.args.verity.now c.args.number _ (judge-most (block_in c.args.config.now c.args.verity.now c.args.number)) (refused-digest c.in-Err-Stack.field-0-is c.in-Err-Stack.ensures.reads)
+    judged-refused c.args.config.now c.args.verity.now c.args.number _ (judge-most (block_in c.args.config.now c.args.verity.now c.args.number)) (fault-digest c.args.config.now c.args.verity.now c.args.number c.in-Err-Stack.field-0-is c.in-Err-Stack.ensures.reads)
 
 pub judge_block-returns-in-Err-Stack-clause-touches : goal.judge_block-returns-in-Err-Stack-clause-touches
 judge_block-returns-in-Err-Stack-clause-touches g t c =
@@ -2447,11 +2451,11 @@ judge_block-returns-in-Err-Stack-clause-touches g t c =
     asks-one v.parity (Ok Lost) (protected v.parity b.parity b.has) (λ none. none c.args.tree.now.device.0 c.args.tree.now.line v b.lies.is) tt c.in-Err-Stack.ensures.touches
 
 pub judge_block-returns-in-Err-Stack-clause-given : goal.judge_block-returns-in-Err-Stack-clause-given
-judge_block-returns-in-Err-Stack-clause-given g t c j q i l expected next = judges-refused expected _ next (fault-reads c.in-Err-Stack.field-0-is c.in-Err-Stack.ensures.given)
+judge_block-returns-in-Err-Stack-clause-given g t c j q i l expected next = judges-refused expected _ next (fault-reads c.args.config.now (place_in c.args.verity.now c.args.tree.now c.args.number) c.args.number c.in-Err-Stack.field-0-is c.in-Err-Stack.ensures.given)
 
 pub judge_block-returns-in-Err-NoMemory-clause-err : goal.judge_block-returns-in-Err-NoMemory-clause-err
 judge_block-returns-in-Err-NoMemory-clause-err g t c =
-    judged-short c.args.config.now c.args.verity.now c.args.number (judge-most (block_in c.args.config.now c.args.verity.now c.args.number)) (fault-digest c.in-Err-NoMemory.field-0-is c.in-Err-NoMemory.ensures.reads)
+    judged-short c.args.config.now c.args.verity.now c.args.number (judge-most (block_in c.args.config.now c.args.verity.now c.args.number)) (fault-digest c.args.config.now c.args.verity.now c.args.number c.in-Err-NoMemory.field-0-is c.in-Err-NoMemory.ensures.reads)
 
 pub judge_block-returns-in-Err-NoMemory-clause-touches : goal.judge_block-returns-in-Err-NoMemory-clause-touches
 judge_block-returns-in-Err-NoMemory-clause-touches g t c =
@@ -2460,7 +2464,7 @@ judge_block-returns-in-Err-NoMemory-clause-touches g t c =
     asks-one v.parity (Err NoMemory) (protected v.parity b.parity b.has) (λ none. none c.args.tree.now.device.0 c.args.tree.now.line v b.lies.is) tt c.in-Err-NoMemory.ensures.touches
 
 pub judge_block-returns-in-Err-NoMemory-clause-given : goal.judge_block-returns-in-Err-NoMemory-clause-given
-judge_block-returns-in-Err-NoMemory-clause-given g t c j q i l expected next = judges-short expected next (fault-reads c.in-Err-NoMemory.field-0-is c.in-Err-NoMemory.ensures.given)
+judge_block-returns-in-Err-NoMemory-clause-given g t c j q i l expected next = judges-short expected next (fault-reads c.args.config.now (place_in c.args.verity.now c.args.tree.now c.args.number) c.args.number c.in-Err-NoMemory.field-0-is c.in-Err-NoMemory.ensures.given)
 
 -- its leaf failed
 pub judge_block-returns-in-Err-Device-clause-ok : goal.judge_block-returns-in-Err-Device-clause-ok
@@ -2470,7 +2474,7 @@ judge_block-returns-in-Err-Device-clause-ok g t c =
     let b = c.requires.block in
     let k : ℕ = c.args.number in
     subst (λ (r : Result Judged IoFault). IfOk r (IsJudged config v k (map g.D.BlockDev.state c.args.backing.now.devices.items) (map g.D.BlockDev.state c.known_digest-known.new.backing.devices.items))) (sym c.judge_by.ensures)
-    (judged-unread config v k (judge-fits config v c.args.tree.now b.parity k c.requires.stack.sound.loaded b.lies b.has) c.in-Err-Device.leaf (fault-digest c.in-Err-Device.field-0-is c.in-Err-Device.ensures.reads) c.known_digest-known.result c.known_digest-known.ensures.reads)
+    (judged-unread config v k (judge-fits config v c.args.tree.now b.parity k c.requires.stack.sound.loaded b.lies b.has) c.in-Err-Device.leaf (fault-digest c.args.config.now c.args.verity.now c.args.number c.in-Err-Device.field-0-is c.in-Err-Device.ensures.reads) c.known_digest-known.result c.known_digest-known.ensures.reads)
 
 pub judge_block-returns-in-Err-Device-clause-named : goal.judge_block-returns-in-Err-Device-clause-named
 judge_block-returns-in-Err-Device-clause-named g t c =
@@ -2485,7 +2489,7 @@ judge_block-returns-in-Err-Device-clause-err g t c =
     let b = c.requires.block in
     let k : ℕ = c.args.number in
     subst (λ (r : Result Judged IoFault). IfErr r (IsUnjudged (block_in config v k) (judge_cost (block_in config v k)) (map g.D.BlockDev.state c.args.backing.now.devices.items) (map g.D.BlockDev.state c.known_digest-known.new.backing.devices.items))) (sym c.judge_by.ensures)
-    (unjudged-unread config v k (judge-fits config v c.args.tree.now b.parity k c.requires.stack.sound.loaded b.lies b.has) c.in-Err-Device.leaf (fault-digest c.in-Err-Device.field-0-is c.in-Err-Device.ensures.reads) c.known_digest-known.result c.known_digest-known.ensures.reads)
+    (unjudged-unread config v k (judge-fits config v c.args.tree.now b.parity k c.requires.stack.sound.loaded b.lies b.has) c.in-Err-Device.leaf (fault-digest c.args.config.now c.args.verity.now c.args.number c.in-Err-Device.field-0-is c.in-Err-Device.ensures.reads) c.known_digest-known.result c.known_digest-known.ensures.reads)
 
 pub judge_block-returns-in-Err-Device-clause-cached : goal.judge_block-returns-in-Err-Device-clause-cached
 judge_block-returns-in-Err-Device-clause-cached g t c = record { capacity = c.known_digest-known.ensures.cached.capacity ∙ c.in-Err-Device.ensures.cached.capacity; sound = c.known_digest-known.ensures.cached.sound }
@@ -2501,7 +2505,7 @@ judge_block-returns-in-Err-Device-clause-touches g t c =
 
 pub judge_block-returns-in-Err-Device-clause-given : goal.judge_block-returns-in-Err-Device-clause-given
 judge_block-returns-in-Err-Device-clause-given g t c j q i l expected next =
-    judges-by expected c.judge_by.result next (fault-reads c.in-Err-Device.field-0-is c.in-Err-Device.ensures.given) (c.known_digest-known.ensures.given j) c.judge_by.ensures
+    judges-by expected c.judge_by.result next (fault-reads c.args.config.now (place_in c.args.verity.now c.args.tree.now c.args.number) c.args.number c.in-Err-Device.field-0-is c.in-Err-Device.ensures.given) (c.known_digest-known.ensures.given j) c.judge_by.ensures
 
 -- it was read
 pub judge_block-returns-in-Ok-clause-ok : goal.judge_block-returns-in-Ok-clause-ok
@@ -2561,7 +2565,7 @@ judge_other-returns-in-Err-clause-finds g t c q has few low first so_far =
     let j : ℕ = c.args.losses.now.lost.index in
     let place = place_in v tree j in
     let at : other_number q j c.args.place ≡ Some c.in-Some.number = sym (c.in-Some.ensures.is ∙ ap (λ (o : Option Parity). other_in o j c.args.place) has) in
-    let next = record { few = few; low = low; at = at } in
+    let next : IsNext q j c.args.place (record_of c.args.losses.now) c.in-Some.number = record { few = few; low = low; at = at } in
     let round = is-round c.args.config.now v tree c.requires.stack.sound.loaded c.requires.block.lies j c.requires.block.there q has in
     unfound-next g.D.BlockDev.state c.args.config.now place q so_far c.in-Some.number next round.some c.in-Err.full c.in-Err.ensures.err (λ expected. c.in-Err.ensures.given j q c.args.place (record_of c.args.losses.now) expected next)
 
@@ -2572,7 +2576,7 @@ judge_other-returns-in-Ok-note-clause-finds g t c q has few low first so_far =
     let j : ℕ = c.args.losses.now.lost.index in
     let place = place_in v tree j in
     let at : other_number q j c.args.place ≡ Some c.in-Some.number = sym (c.in-Some.ensures.is ∙ ap (λ (o : Option Parity). other_in o j c.args.place) has) in
-    let next = record { few = few; low = low; at = at } in
+    let next : IsNext q j c.args.place (record_of c.args.losses.now) c.in-Some.number = record { few = few; low = low; at = at } in
     subst (λ (l : LossRecord). AreFoundUpTo g.D.BlockDev.state (DeviceDoes g.D.BlockDev.state g.D.BlockDev.does) c.args.config.now place q (suc c.args.place) first c.judge_block.new.backing l) (sym c.in-Ok-note.ensures.ok.is)
     (found-next g.D.BlockDev.state c.args.config.now place q so_far c.in-Some.number next c.in-Ok.judged c.in-Ok.ensures.ok (λ expected. c.in-Ok.ensures.given j q c.args.place (record_of c.args.losses.now) expected next))
 
@@ -2583,7 +2587,7 @@ judge_other-returns-in-Err-note-clause-finds g t c q has few low first so_far =
     let j : ℕ = c.args.losses.now.lost.index in
     let place = place_in v tree j in
     let at : other_number q j c.args.place ≡ Some c.in-Some.number = sym (c.in-Some.ensures.is ∙ ap (λ (o : Option Parity). other_in o j c.args.place) has) in
-    let next = record { few = few; low = low; at = at } in
+    let next : IsNext q j c.args.place (record_of c.args.losses.now) c.in-Some.number = record { few = few; low = low; at = at } in
     let round = is-round c.args.config.now v tree c.requires.stack.sound.loaded c.requires.block.lies j c.requires.block.there q has in
     unfound-full g.D.BlockDev.state c.args.config.now place q round.some (omega (arith, low))
     (found-next g.D.BlockDev.state c.args.config.now place q so_far c.in-Some.number next c.in-Ok.judged c.in-Ok.ensures.ok (λ expected. c.in-Ok.ensures.given j q c.args.place (record_of c.args.losses.now) expected next)) c.in-Err-note.ensures.err
@@ -2801,7 +2805,7 @@ mend_erased-restore-requires g t c κs within =
     let same : losses.lost ≡ c.args.lost.now = c.in-Ok.ensures.same in
     let block = subst (λ (x : LostBlock). HasVerifiedBlock config v tree x.index) (sym same) c.requires.block in
     let of = subst (λ (x : LostBlock). AreLossesOf v x.index (record_of losses)) (sym same) (losses-found (record_of losses) q has round.low found) in
-    let few = losses-few v (record_of losses) q has (omega (arith, c.if-len-roots.false, losses.places.ok.0)) in
+    let few : length losses.places.items ≤ 24 = omega (arith, c.if-len-roots.false, losses.places.ok.0, round.few) in
     (omega arith, (within, (stack-later config found.found.judged.moved.moved.fixed c.requires.stack c.in-Ok.ensures.cached, (block, (of, (few, c.requires.size))))))
 
 -- the restored one of the block that was asked for
@@ -2842,8 +2846,8 @@ mend_erased-returns-in-Ok-restore-clause-cached g t c = record { capacity = c.in
 pub mend_erased-returns-in-Ok-restore-clause-touches : goal.mend_erased-returns-in-Ok-restore-clause-touches
 mend_erased-returns-in-Ok-restore-clause-touches g t c = asks-then c.in-Ok.ensures.touches c.in-Ok-restore.ensures.touches
 
-pub mend_erased-returns-in-Err-restore-clause-reads : goal.mend_erased-returns-in-Err-restore-clause-reads
-mend_erased-returns-in-Err-restore-clause-reads g t c =
+pub mend_erased-returns-clause-reads : goal.mend_erased-returns-clause-reads
+mend_erased-returns-clause-reads g t c =
     let config = c.args.config.now in
     let v = c.args.verity.now in
     let tree = c.args.tree.now in
@@ -2855,13 +2859,13 @@ mend_erased-returns-in-Err-restore-clause-reads g t c =
     let round = is-round config v tree c.requires.stack.sound.loaded c.requires.block.lies index c.requires.block.there q has in
     let shape = (line-facts config tree.device.0 tree.line v c.requires.stack.sound.loaded c.requires.block.lies.is).2.shape in
     let few : length losses.places.items ≤ q.roots = omega (arith, c.if-len-roots.false, losses.places.ok.0) in
-    let is : c.unhealed.result ≡ unhealed (vain_fault losses.failed) c.in-Err-restore.fault = c.unhealed.ensures ∙ ap (λ (e : IoFault). unhealed e c.in-Err-restore.fault) c.vain-2.ensures in
+    let is : c.unhealed.result ≡ unhealed (vain_fault losses.failed) c.in-Err-restore.fault = c.unhealed.ensures ∙ ap (λ (e : IoFault). unhealed e c.in-Err-restore.fault) c.vain-in-Err-restore.ensures in
     subst (λ (e : IoFault). Gets (erased_wanted config v c.args.lost.now) (map g.D.BlockDev.state c.args.backing.now.devices.items) (map g.D.BlockDev.state c.restore.new.backing.devices.items) (Err e)) (sym is)
     (erased-all (block_in config v index) q has round.some round.few (block-covered config v tree index c.requires.stack.sound.loaded c.requires.block q has) shape c.args.lost.now.digest (record_of losses) found.found.judged (all-judged q found few) few (Err c.in-Err-restore.fault)
     (erased-restored config v tree c.args.lost.now losses.lost (record_of losses) q (Err c.in-Err-restore.fault) c.in-Ok.ensures.same (c.in-Err-restore.ensures.reads q has)))
 
-pub mend_erased-returns-in-Err-restore-clause-given : goal.mend_erased-returns-in-Err-restore-clause-given
-mend_erased-returns-in-Err-restore-clause-given g t c =
+pub mend_erased-returns-clause-given : goal.mend_erased-returns-clause-given
+mend_erased-returns-clause-given g t c =
     let v = c.args.verity.now in
     let tree = c.args.tree.now in
     let q = c.in-Some.parity in
@@ -2869,19 +2873,16 @@ mend_erased-returns-in-Err-restore-clause-given g t c =
     let losses = c.in-Ok.losses in
     let found = c.in-Ok.ensures.ok q has in
     let few : length losses.places.items ≤ q.roots = omega (arith, c.if-len-roots.false, losses.places.ok.0) in
-    let is : c.unhealed.result ≡ unhealed (vain_fault losses.failed) c.in-Err-restore.fault = c.unhealed.ensures ∙ ap (λ (e : IoFault). unhealed e c.in-Err-restore.fault) c.vain-2.ensures in
+    let is : c.unhealed.result ≡ unhealed (vain_fault losses.failed) c.in-Err-restore.fault = c.unhealed.ensures ∙ ap (λ (e : IoFault). unhealed e c.in-Err-restore.fault) c.vain-in-Err-restore.ensures in
     subst (λ (e : IoFault). ReadsBy (DeviceDoes g.D.BlockDev.state g.D.BlockDev.does) c.args.config.now (erased_of (place_in v tree c.args.lost.now.index) c.args.lost.now.digest) (served c.args.backing.now) (served c.restore.new.backing) (Err e)) (sym is)
     (erased-given has (found.found.given c.args.lost.now.digest) (Err c.in-Err-restore.fault) (all-judged q found few) few
     (subst (λ (x : LostBlock). ReadsBy (DeviceDoes g.D.BlockDev.state g.D.BlockDev.does) c.args.config.now (restored_of (place_in v tree x.index) q (record_of losses) x.digest) (served c.find_losses.new.backing) (served c.restore.new.backing) (Err c.in-Err-restore.fault)) c.in-Ok.ensures.same (c.in-Err-restore.ensures.given q has)))
 
-pub mend_erased-returns-in-Err-restore-clause-cached : goal.mend_erased-returns-in-Err-restore-clause-cached
-mend_erased-returns-in-Err-restore-clause-cached g t c = record { capacity = c.in-Err-restore.ensures.cached.capacity ∙ c.in-Ok.ensures.cached.capacity; sound = c.in-Err-restore.ensures.cached.sound }
-
-pub mend_erased-returns-in-Err-restore-clause-touches : goal.mend_erased-returns-in-Err-restore-clause-touches
-mend_erased-returns-in-Err-restore-clause-touches g t c =
+pub mend_erased-returns-clause-touches : goal.mend_erased-returns-clause-touches
+mend_erased-returns-clause-touches g t c =
     let v = c.args.verity.now in
     let these = leaves_of c.args.config.now (mapped c.args.tree.now.device.0) in
-    let is : c.unhealed.result ≡ unhealed (vain_fault c.in-Ok.losses.failed) c.in-Err-restore.fault = c.unhealed.ensures ∙ ap (λ (e : IoFault). unhealed e c.in-Err-restore.fault) c.vain-2.ensures in
+    let is : c.unhealed.result ≡ unhealed (vain_fault c.in-Ok.losses.failed) c.in-Err-restore.fault = c.unhealed.ensures ∙ ap (λ (e : IoFault). unhealed e c.in-Err-restore.fault) c.vain-in-Err-restore.ensures in
     asks-both v.parity (Err c.unhealed.result) (protected v.parity c.in-Some.parity c.in-Some.is) (λ none. none c.args.tree.now.device.0 c.args.tree.now.line v c.requires.block.lies.is)
     (subst (λ (e : IoFault). NamesOneOf these e) (sym is) (unhealed-named these (vain_fault c.in-Ok.losses.failed) c.in-Err-restore.fault (vain-named these c.in-Ok.losses.failed c.in-Ok.ensures.named) c.in-Err-restore.ensures.touches.fault)) c.in-Ok.ensures.touches c.in-Err-restore.ensures.touches
 
@@ -2895,13 +2896,71 @@ restore-returns-in-Err-clause-reads g t c q has =
 pub restore-returns-in-Err-clause-given : goal.restore-returns-in-Err-clause-given
 restore-returns-in-Err-clause-given g t c q has = restored-lost (c.in-Err.ensures.given q has)
 
-pub restore-returns-else-are_whole-clause-reads : goal.restore-returns-else-are_whole-clause-reads
-restore-returns-else-are_whole-clause-reads g t c q has =
+pub restore-returns-clause-reads : goal.restore-returns-clause-reads
+restore-returns-clause-reads g t c q has =
     let l = c.args.losses.now in
     restored-differs (block_in c.args.config.now c.args.verity.now l.lost.index) q (record_of l) l.lost.digest (c.in-Ok.ensures.reads q has) (sym c.are_whole.ensures ∙ c.if-are_whole.false)
 
-pub restore-returns-else-are_whole-clause-given : goal.restore-returns-else-are_whole-clause-given
-restore-returns-else-are_whole-clause-given g t c q has = restored-other (sym c.are_whole.ensures ∙ c.if-are_whole.false) (c.in-Ok.ensures.given q has)
+pub restore-returns-clause-given : goal.restore-returns-clause-given
+restore-returns-clause-given g t c q has = restored-other (sym c.are_whole.ensures ∙ c.if-are_whole.false) (c.in-Ok.ensures.given q has)
+
+-- so many bytes of sums
+restore-long : (size len out room n : ℕ) (places : List ℕ) (all : List ℕ) → n ≡ length places * len → len ≡ out → out ≡ size → n ≤ 98304 → length all ≡ 98304 → length (take n all) ≡ length places * size
+restore-long size len out room n places all is one two fits whole =
+    let long : length (take n all) ≡ n = omega (arith, fits, whole, length-take n all) in
+    long ∙ is ∙ ap (λ (k : ℕ). length places * k) (one ∙ two)
+
+pub restore-room-requires-clause-size : goal.restore-room-requires-clause-size
+restore-room-requires-clause-size g t c =
+    let whole = data-whole c.args.config.now c.args.tree.now.device.0 c.args.tree.now.line c.args.verity.now c.requires.stack.sound.loaded c.requires.block.lies.is in
+    omega (arith, c.len-size.ensures, c.requires.size, whole.whole, whole.most)
+
+pub restore-slice_bounds-sums-end : goal.restore-slice_bounds-sums-end
+restore-slice_bounds-sums-end g t c =
+    let room : length c.as_mut_slice-all.result.now ≡ 98304 = ap (λ (l : List ℕ). length l) c.as_mut_slice-all.ensures.value in
+    omega (arith, room, c.room.ensures.fits)
+
+pub restore-decode-requires : goal.restore-decode-requires
+restore-decode-requires g t c κs within =
+    let room : length c.as_mut_slice-all.result.now ≡ 98304 = ap (λ (l : List ℕ). length l) c.as_mut_slice-all.ensures.value in
+    let long = restore-long c.args.verity.now.data_block c.len-size.result (length c.args.out.now) 0 c.room.result c.args.losses.now.places.items c.as_mut_slice-all.result.now c.room.ensures.value c.len-size.ensures c.requires.size c.room.ensures.fits room in
+    (omega arith, (within, (c.requires.stack, (c.requires.block, (c.requires.losses, long)))))
+
+pub restore-are_whole-requires-clause-size : goal.restore-are_whole-requires-clause-size
+restore-are_whole-requires-clause-size g t c =
+    let room : length c.as_mut_slice-all.result.now ≡ 98304 = ap (λ (l : List ℕ). length l) c.as_mut_slice-all.ensures.value in
+    c.decode.auto.sums ∙ restore-long c.args.verity.now.data_block c.len-size.result (length c.args.out.now) 0 c.room.result c.args.losses.now.places.items c.as_mut_slice-all.result.now c.room.ensures.value c.len-size.ensures c.requires.size c.room.ensures.fits room
+
+pub restore-take_first-requires : goal.restore-take_first-requires
+restore-take_first-requires g t c =
+    let size : ℕ = c.args.verity.now.data_block in
+    let room : length c.as_mut_slice-all.result.now ≡ 98304 = ap (λ (l : List ℕ). length l) c.as_mut_slice-all.ensures.value in
+    let long = restore-long size c.len-size.result (length c.args.out.now) 0 c.room.result c.args.losses.now.places.items c.as_mut_slice-all.result.now c.room.ensures.value c.len-size.ensures c.requires.size c.room.ensures.fits room in
+    let one : 1 * size ≤ length c.args.losses.now.places.items * size = mul-le-mul_right size (omega (arith, c.requires.losses.some)) in
+    omega (arith, c.decode.auto.sums, long, one, c.requires.size)
+
+pub restore-returns-then-are_whole-clause-reads : goal.restore-returns-then-are_whole-clause-reads
+restore-returns-then-are_whole-clause-reads g t c q has =
+    let config = c.args.config.now in
+    let v = c.args.verity.now in
+    let l = c.args.losses.now in
+    let sums = c.decode.new.sums in
+    let whole = data-whole config c.args.tree.now.device.0 c.args.tree.now.line v c.requires.stack.sound.loaded c.requires.block.lies.is in
+    let room : length c.as_mut_slice-all.result.now ≡ 98304 = ap (λ (l : List ℕ). length l) c.as_mut_slice-all.ensures.value in
+    let long : length sums ≡ length l.places.items * v.data_block = c.decode.auto.sums ∙ restore-long v.data_block c.len-size.result (length c.args.out.now) 0 c.room.result l.places.items c.as_mut_slice-all.result.now c.room.ensures.value c.len-size.ensures c.requires.size c.room.ensures.fits room in
+    let first : c.take_first.new.out ≡ column v.data_block sums 0 = c.take_first.ensures ∙ ap (λ (k : ℕ). take k sums) c.requires.size ∙ sym (column-first v.data_block sums) in
+    subst (λ (x : List ℕ). Gets (restored_wanted (block_in config v l.lost.index) q (record_of l) l.lost.digest) (map g.D.BlockDev.state c.args.backing.now.devices.items) (map g.D.BlockDev.state c.decode.new.backing.devices.items) (Ok x)) (sym first)
+    (restored-whole (block_in config v l.lost.index) q (record_of l) l.lost.digest (c.in-Ok.ensures.reads q has) (sym c.are_whole.ensures ∙ c.if-are_whole.true) (column-length v.data_block (length l.places.items) sums long 0 c.requires.losses.some ∙ sym whole.whole))
+
+pub restore-returns-then-are_whole-clause-given : goal.restore-returns-then-are_whole-clause-given
+restore-returns-then-are_whole-clause-given g t c q has =
+    let config = c.args.config.now in
+    let v = c.args.verity.now in
+    let l = c.args.losses.now in
+    let sums = c.decode.new.sums in
+    let first : c.take_first.new.out ≡ column v.data_block sums 0 = c.take_first.ensures ∙ ap (λ (k : ℕ). take k sums) c.requires.size ∙ sym (column-first v.data_block sums) in
+    subst (λ (x : List ℕ). ReadsBy (DeviceDoes g.D.BlockDev.state g.D.BlockDev.does) config (restored_of (place_in v c.args.tree.now l.lost.index) q (record_of l) l.lost.digest) (served c.args.backing.now) (served c.decode.new.backing) (Ok x)) (sym first)
+    (restored-given (sym c.are_whole.ensures ∙ c.if-are_whole.true) (c.in-Ok.ensures.given q has))
 
 -- ---- the sums of the lost blocks
 

@@ -226,7 +226,7 @@ invariant-digest_beneath-loop-height g l = record {
   known : IsDigestBeneath (block_in l.config l.verity l.index) (levels (tree_of l.verity) - l.height) l.digest (map g.D.BlockDev.state l.fn.backing.devices.items) (map g.D.BlockDev.state l.backing.devices.items);
   cached : KeepsCache l.config (map g.D.BlockDev.state l.backing.devices.items) l.fn.backing.cache l.backing.cache;
   touches : AsksOnly {A = Unit {0}} (HasNoParity l.config) (leaves_of l.config (mapped l.tree.device.0)) (map g.D.BlockDev.state l.fn.backing.devices.items) (map g.D.BlockDev.state l.backing.devices.items) (Ok tt);
-  given : (j : ℕ) → LeadsTo (DeviceDoes g.D.BlockDev.state g.D.BlockDev.does) l.config (digest_of (place_in l.verity l.tree j) (end_of l.end) 0 l.verity.root) (digest_of (place_in l.verity l.tree j) (end_of l.end) (levels (tree_of l.verity) - l.height) l.digest) (served l.fn.backing) (served l.backing);
+  given : (j : ℕ) → LeadsTo (DeviceDoes g.D.BlockDev.state g.D.BlockDev.does) l.config (digest_of (place_in l.verity l.tree j) (end_of l.fn.end) 0 l.verity.root) (digest_of (place_in l.verity l.tree j) (end_of l.fn.end) (levels (tree_of l.verity) - l.height) l.digest) (served l.fn.backing) (served l.backing);
 }
 
 abbrev pub decreases-digest_beneath-loop-height : goal.decreases-digest_beneath-loop-height
