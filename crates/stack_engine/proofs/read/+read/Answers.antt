@@ -2905,37 +2905,37 @@ pub restore-returns-clause-given : goal.restore-returns-clause-given
 restore-returns-clause-given g t c q has = restored-other (sym c.are_whole.ensures ∙ c.if-are_whole.false) (c.in-Ok.ensures.given q has)
 
 -- so many bytes of sums
-restore-long : (size len out room n : ℕ) (places : List ℕ) (all : List ℕ) → n ≡ length places * len → len ≡ out → out ≡ size → n ≤ 98304 → length all ≡ 98304 → length (take n all) ≡ length places * size
-restore-long size len out room n places all is one two fits whole =
+restore-long : (size out n : ℕ) (places : List ℕ) (all : List ℕ) → n ≡ length places * out → out ≡ size → n ≤ 98304 → length all ≡ 98304 → length (take n all) ≡ length places * size
+restore-long size out n places all is same fits whole =
     let long : length (take n all) ≡ n = omega (arith, fits, whole, length-take n all) in
-    long ∙ is ∙ ap (λ (k : ℕ). length places * k) (one ∙ two)
+    long ∙ is ∙ ap (λ (k : ℕ). length places * k) same
 
 pub restore-room-requires-clause-size : goal.restore-room-requires-clause-size
 restore-room-requires-clause-size g t c =
     let whole = data-whole c.args.config.now c.args.tree.now.device.0 c.args.tree.now.line c.args.verity.now c.requires.stack.sound.loaded c.requires.block.lies.is in
-    omega (arith, c.len-size.ensures, c.requires.size, whole.whole, whole.most)
+    omega (arith, c.requires.size, whole.whole, whole.most)
 
 pub restore-slice_bounds-sums-end : goal.restore-slice_bounds-sums-end
 restore-slice_bounds-sums-end g t c =
     let room : length c.as_mut_slice-all.result.now ≡ 98304 = ap (λ (l : List ℕ). length l) c.as_mut_slice-all.ensures.value in
-    omega (arith, room, c.room.ensures.fits)
+    sym (length-take-le c.room.result c.as_mut_slice-all.result.now (omega (arith, room, c.room.ensures.fits)))
 
 pub restore-decode-requires : goal.restore-decode-requires
 restore-decode-requires g t c κs within =
     let room : length c.as_mut_slice-all.result.now ≡ 98304 = ap (λ (l : List ℕ). length l) c.as_mut_slice-all.ensures.value in
-    let long = restore-long c.args.verity.now.data_block c.len-size.result (length c.args.out.now) 0 c.room.result c.args.losses.now.places.items c.as_mut_slice-all.result.now c.room.ensures.value c.len-size.ensures c.requires.size c.room.ensures.fits room in
+    let long = restore-long c.args.verity.now.data_block (length c.args.out.now) c.room.result c.args.losses.now.places.items c.as_mut_slice-all.result.now c.room.ensures.value c.requires.size c.room.ensures.fits room in
     (omega arith, (within, (c.requires.stack, (c.requires.block, (c.requires.losses, long)))))
 
 pub restore-are_whole-requires-clause-size : goal.restore-are_whole-requires-clause-size
 restore-are_whole-requires-clause-size g t c =
     let room : length c.as_mut_slice-all.result.now ≡ 98304 = ap (λ (l : List ℕ). length l) c.as_mut_slice-all.ensures.value in
-    c.decode.auto.sums ∙ restore-long c.args.verity.now.data_block c.len-size.result (length c.args.out.now) 0 c.room.result c.args.losses.now.places.items c.as_mut_slice-all.result.now c.room.ensures.value c.len-size.ensures c.requires.size c.room.ensures.fits room
+    c.decode.auto.sums ∙ restore-long c.args.verity.now.data_block (length c.args.out.now) c.room.result c.args.losses.now.places.items c.as_mut_slice-all.result.now c.room.ensures.value c.requires.size c.room.ensures.fits room
 
 pub restore-take_first-requires : goal.restore-take_first-requires
 restore-take_first-requires g t c =
     let size : ℕ = c.args.verity.now.data_block in
     let room : length c.as_mut_slice-all.result.now ≡ 98304 = ap (λ (l : List ℕ). length l) c.as_mut_slice-all.ensures.value in
-    let long = restore-long size c.len-size.result (length c.args.out.now) 0 c.room.result c.args.losses.now.places.items c.as_mut_slice-all.result.now c.room.ensures.value c.len-size.ensures c.requires.size c.room.ensures.fits room in
+    let long = restore-long size (length c.args.out.now) c.room.result c.args.losses.now.places.items c.as_mut_slice-all.result.now c.room.ensures.value c.requires.size c.room.ensures.fits room in
     let one : 1 * size ≤ length c.args.losses.now.places.items * size = mul-le-mul_right size (omega (arith, c.requires.losses.some)) in
     omega (arith, c.decode.auto.sums, long, one, c.requires.size)
 
@@ -2947,7 +2947,7 @@ restore-returns-then-are_whole-clause-reads g t c q has =
     let sums = c.decode.new.sums in
     let whole = data-whole config c.args.tree.now.device.0 c.args.tree.now.line v c.requires.stack.sound.loaded c.requires.block.lies.is in
     let room : length c.as_mut_slice-all.result.now ≡ 98304 = ap (λ (l : List ℕ). length l) c.as_mut_slice-all.ensures.value in
-    let long : length sums ≡ length l.places.items * v.data_block = c.decode.auto.sums ∙ restore-long v.data_block c.len-size.result (length c.args.out.now) 0 c.room.result l.places.items c.as_mut_slice-all.result.now c.room.ensures.value c.len-size.ensures c.requires.size c.room.ensures.fits room in
+    let long : length sums ≡ length l.places.items * v.data_block = c.decode.auto.sums ∙ restore-long v.data_block (length c.args.out.now) c.room.result l.places.items c.as_mut_slice-all.result.now c.room.ensures.value c.requires.size c.room.ensures.fits room in
     let first : c.take_first.new.out ≡ column v.data_block sums 0 = c.take_first.ensures ∙ ap (λ (k : ℕ). take k sums) c.requires.size ∙ sym (column-first v.data_block sums) in
     subst (λ (x : List ℕ). Gets (restored_wanted (block_in config v l.lost.index) q (record_of l) l.lost.digest) (map g.D.BlockDev.state c.args.backing.now.devices.items) (map g.D.BlockDev.state c.decode.new.backing.devices.items) (Ok x)) (sym first)
     (restored-whole (block_in config v l.lost.index) q (record_of l) l.lost.digest (c.in-Ok.ensures.reads q has) (sym c.are_whole.ensures ∙ c.if-are_whole.true) (column-length v.data_block (length l.places.items) sums long 0 c.requires.losses.some ∙ sym whole.whole))

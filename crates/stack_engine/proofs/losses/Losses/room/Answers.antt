@@ -6,4 +6,4 @@ most : (count size : ℕ) → count ≤ 24 → size ≤ 4096 → count * size �
 most count size few small = omega (arith, mul-le-mul_right size few, small)
 
 pub returns-clause-fits : goal.returns-clause-fits
-returns-clause-fits c = omega (arith, most (length c.args.self.now.places.items) c.args.size c.requires.few c.requires.size, c.len.ensures)
+returns-clause-fits c = omega (arith, most c.len.result c.args.size (omega (arith, c.len.ensures, c.requires.few)) c.requires.size)
