@@ -106,10 +106,10 @@ module _ (v : Verity) (p : Parity) (l : Layout) (f : ProtectedImage) (laid : IsL
       let also : length (map (word-of n parity c) (range_with_len 0 255)) ≡ 255 = length-map-range_with_len (word-of n parity c) 0 255 in
       same_number_lists (map (word-byte n parity c) (range_with_len 0 255)) (map (word-of n parity c) (range_with_len 0 255)) (long ∙ sym also)
       (λ i lt.
-          let low : i < 255 = omega (arith, lt, long) in
-          get_or-map-range_with_len (word-byte n parity c) 0 255 i i 0 low (omega arith)
-          ∙ byte-same n parity c i
-          ∙ sym (get_or-map-range_with_len (word-of n parity c) 0 255 i i 0 low (omega arith)))
+      let low : i < 255 = omega (arith, lt, long) in
+      get_or-map-range_with_len (word-byte n parity c) 0 255 i i 0 low (omega arith)
+      ∙ byte-same n parity c i
+      ∙ sym (get_or-map-range_with_len (word-of n parity c) 0 255 i i 0 low (omega arith)))
 
   round-code : IsProtectedImage l f → (n : ℕ) → n < round_count p → IsFormerCode v p (protected_block l f) n (protected_parity l f n)
   round-code image n low = record {

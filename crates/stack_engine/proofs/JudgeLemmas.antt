@@ -158,13 +158,6 @@ module _ (c : Configuration) (v : Verity) (k : ℕ) where
 
 -- ---- judging
 
--- a block whose digest, or whose leaf's fault, is there
-abbrev pub is_had : Result (List ℕ) IoFault → Result (List ℕ) ℕ → Type 0
-is_had (Ok made) own = own ≡ Ok made
-is_had (Err (io.Device leaf)) own = own ≡ Err leaf
-is_had (Err (io.Stack other)) own = ⊥
-is_had (Err io.NoMemory) own = ⊥
-
 -- what is meant of a digest
 changed-ok : (f : List ℕ → List ℕ) (x : Outcome) (made : List ℕ) → changed_outcome f x ≡ Ok made → (block : List ℕ) × (x ≡ Ok block) × (f block ≡ made)
 changed-ok f (Ok block) made e = let same : f block ≡ made = cc in (block, refl, same)
@@ -208,7 +201,6 @@ module _ (c : Configuration) (v : Verity) (k : ℕ) where
         lost-by old (Ok block.0) x block.1 (ap (λ (i : Images). known_digest v (sources_of b i) k) (sym (images-kept own.moved)) ∙ e)
 
   module _ {old mid new : List Device} (fits : block_cost b + levels (tree_of v) * (hash_sectors v * b.on_hash.cost) ≤ judge_cost b) where
-
     -- it was read
     module _ (made : List ℕ) (own : Gets (stored_digest_wanted c v k) old mid (Ok made)) where
       pub judged-read : (known : Result (List ℕ) IoFault) → Gets (known_digest_wanted c v k) mid new known → IfOk (judge_by (Ok made) known) (IsJudged c v k old new)

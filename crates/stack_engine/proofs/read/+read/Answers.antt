@@ -2671,7 +2671,7 @@ find_losses-returns-in-Err-judge_other-clause-err g t c q has =
     let low = mend-inside c.args.verity.now.parity c.in-Some.parity q c.loop-place.place c.in-Some.is has (omega (arith, c.loop-place-test.true)) in
     let index : c.loop-place.losses.lost.index ≡ c.args.lost.now.index = ap (λ (x : LostBlock). x.index) inv.same in
     subst (λ (j : ℕ). AreFoundUpTo g.D.BlockDev.state (DeviceDoes g.D.BlockDev.state g.D.BlockDev.does) c.args.config.now (place_in c.args.verity.now c.args.tree.now j) q c.loop-place.place c.args.backing.now c.loop-place.backing (record_of c.loop-place.losses)
-        → AreUnfound g.D.BlockDev.state (DeviceDoes g.D.BlockDev.state g.D.BlockDev.does) c.args.config.now (place_in c.args.verity.now c.args.tree.now j) q c.args.backing.now c.judge_other.new.backing c.in-Err-judge_other.full) index
+    → AreUnfound g.D.BlockDev.state (DeviceDoes g.D.BlockDev.state g.D.BlockDev.does) c.args.config.now (place_in c.args.verity.now c.args.tree.now j) q c.args.backing.now c.judge_other.new.backing c.in-Err-judge_other.full) index
     (c.in-Err-judge_other.ensures.finds q has few low c.args.backing.now) (inv.found q has)
 
 pub find_losses-returns-in-Err-judge_other-clause-cached : goal.find_losses-returns-in-Err-judge_other-clause-cached
@@ -2696,7 +2696,7 @@ find_losses-loop-place-preserved g t c =
           let low = mend-inside c.args.verity.now.parity c.in-Some.parity q c.loop-place.place c.in-Some.is has (omega (arith, c.loop-place-test.true)) in
           subst (λ (k : ℕ). AreFoundUpTo state does c.args.config.now (place_in c.args.verity.now c.args.tree.now c.args.lost.now.index) q k c.args.backing.now c.judge_other.new.backing (record_of c.judge_other.new.losses)) next
           (subst (λ (j : ℕ). AreFoundUpTo state does c.args.config.now (place_in c.args.verity.now c.args.tree.now j) q c.loop-place.place c.args.backing.now c.loop-place.backing (record_of c.loop-place.losses)
-              → AreFoundUpTo state does c.args.config.now (place_in c.args.verity.now c.args.tree.now j) q (suc c.loop-place.place) c.args.backing.now c.judge_other.new.backing (record_of c.judge_other.new.losses)) index
+          → AreFoundUpTo state does c.args.config.now (place_in c.args.verity.now c.args.tree.now j) q (suc c.loop-place.place) c.args.backing.now c.judge_other.new.backing (record_of c.judge_other.new.losses)) index
           (c.in-Ok-judge_other.ensures.finds q has few low c.args.backing.now) (inv.found q has));
       cached = record { capacity = c.in-Ok-judge_other.ensures.cached.capacity ∙ inv.cached.capacity; sound = c.in-Ok-judge_other.ensures.cached.sound };
       touches = asks-then inv.touches c.in-Ok-judge_other.ensures.touches;
