@@ -7,7 +7,8 @@ has no more corrupt blocks than a codeword has bytes of parity, and undamaged pa
 only the tree is, all of it. No block may hold
 other bytes than the formatted ones or the damaged ones, --check may change none, and what ends with the status 0 veritysetup must
 verify, its parity too. Before that `cat` reads the data with the line of `table --fec`: no other byte than the formatted ones, and all
-of them, if no round has lost more than one block of data and tree, nor parity. Where veritysetup isn't installed it says so, and tries nothing (Debian: cryptsetup-bin).
+of them, if of no round more blocks are corrupt than a codeword has bytes of parity, none of them beneath another one, and no parity; so do
+`copy` and a client of `nbd`. Where veritysetup isn't installed it says so, and tries nothing (Debian: cryptsetup-bin).
 """
 import argparse
 import os
@@ -16,6 +17,7 @@ import shutil
 import subprocess
 import sys
 import tempfile
+from struct import pack
 
 sys.dont_write_bytecode = True
 HERE = os.path.dirname(os.path.realpath(__file__))
@@ -23,7 +25,9 @@ sys.path[:0] = [f"{HERE}/../lib", f"{HERE}/../model"]
 
 from checks import Checks, add_cases, random_cases  # noqa: E402
 from parity import corrected, covered  # noqa: E402
+from verity import Tree  # noqa: E402
 
+LEAVES = ["D=ro:data", "H=ro:hash", "P=ro:parity"]
 CHECKS = Checks()
 say = CHECKS.count
 
@@ -122,21 +126,50 @@ def one_of_each(dice, image):
     return found
 
 
+def up_to_roots(dice, image):
+    """At most as many blocks of each round as a codeword has bytes of parity, data and tree, none of them beneath another one."""
+    tree = Tree(image.block, image.block, image.blocks, 1)
+    paths = {("data", it): tree.way(it) for it in range(image.blocks)}
+    paths.update({("hash", it): tree.way_to_hash_block(it) for it in range(1, 1 + sum(tree.levels))})
+    members, picked_blocks = list(paths), set()
+    for turn in range(image.rounds):
+        of_round = members[turn::image.rounds]
+        picked_blocks.update(dice.sample(of_round, min(len(of_round), dice.choice([0, 1, 2, image.roots, image.roots]))))
+    lowest = [it for it in picked_blocks if not any(("hash", place) in picked_blocks for place, _ in paths[it])]
+    return {name: sorted(place for kind, place in lowest if kind == name) for name in ("data", "hash")}
+
+
 def read_with_parity(image):
     """The status of `cat` with the line of `table --fec`, and what it prints."""
     table = [PROGRAM, "table", "--fec", "P", "--fec-roots", image.roots, "--name", "v", "hash", image.root, "D", "H"]
     write("stack", run(*table)[1].encode())
-    words = [PROGRAM, "cat", "stack", "v", "D=ro:data", "H=ro:hash", "P=ro:parity"]
-    done = subprocess.run([str(it) for it in words], capture_output=True, timeout=120)
+    done = subprocess.run([PROGRAM, "cat", "stack", "v", *LEAVES], capture_output=True, timeout=120)
     return done.returncode, done.stdout
 
 
+def copied(size):
+    """The status of `copy` with that line, and what it writes."""
+    write("out", bytes(size))
+    return run(PROGRAM, "copy", "stack", "v", "out", *LEAVES)[0], read("out")
+
+
+def served(size):
+    """The status of `nbd` with that line, and the bytes of the reply to a client that reads all."""
+    asked = [pack(">IHHQQI", 0x25609513, 0, kind, 7, 0, length) for kind, length in ((0, size), (2, 0))]
+    sent = pack(">I", 3) + b"IHAVEOPT" + pack(">II", 1, 1) + b"v" + b"".join(asked)
+    done = subprocess.run([PROGRAM, "nbd", "stack", "v", *LEAVES], input=sent, capture_output=True, timeout=120)
+    return done.returncode, done.stdout[-size:]
+
+
 def tried_read(dice, label):
-    image = Image(dice)
-    for name, places in one_of_each(dice, image).items():
-        image.damage(dice, name, places)
-    status, printed = read_with_parity(image)
-    say(f"{label}: all data are read", status == 0 and printed == image.files["data"], f"status {status}")
+    for damaged in (one_of_each, up_to_roots):
+        image = Image(dice)
+        for name, places in damaged(dice, image).items():
+            image.damage(dice, name, places)
+        data = image.files["data"]
+        ends = {"cat": read_with_parity(image), "copy": copied(len(data)), "nbd": served(len(data))}
+        for command, (status, found) in ends.items():
+            say(f"{label}: {command} reads all data", status == 0 and found == data, f"status {status}")
 
 
 def tried(dice, label):

@@ -5,7 +5,7 @@ unreadable_blocks.py [--cases N] [--seed S] [PROGRAM]: formats images by the mod
 of the tree, and has reads of other sectors fail (scripts/gate/unreadable_sectors.c). What `verify --all` prints must be what the model says
 of blocks that can't be read or aren't good, and so must what `diff --all` prints of hash blocks. A `repair` by a whole copy must leave the formatted block wherever all hash blocks above
 it can be read, each other one as it was, and print at its end what `verify --all` prints of that; of a round with parity as many blocks come
-back as a codeword has bytes of it, and `cat` of a `verity` line with parity returns the only lost one of a round. So must `repair --check` of the image as it is. Where the superblock can't be read each ends so.
+back as a codeword has bytes of it, and as many `cat` of a `verity` line with parity returns. So must `repair --check` of the image as it is. Where the superblock can't be read each ends so.
 """
 import argparse
 import os
@@ -182,15 +182,17 @@ class ParityCase(Case):
         self.stands, self.parity = (bytes(data), self.whole[1]), parity_of(area, block, self.roots)
 
     def check_read(self):
-        """A `verity` line with parity returns the one lost block of a round as formatted, and ends before the first of several."""
+        """A `verity` line with parity returns as many lost blocks of a round as a codeword has bytes of parity, and ends before the first
+        of one more."""
         tree, sectors = self.tree, len(self.whole[0]) // SECTOR
         count = tree.blocks + len(self.whole[1]) // tree.hash_block - tree.start
         shape = f"{tree.data_block} {tree.hash_block} {tree.blocks} {tree.start} sha256 {self.root.hex()} {self.salt.hex()}"
         parity = f"8 use_fec_from_device P fec_roots {self.roots} fec_blocks {count} fec_start 0"
         save(self.room, "fec.stack", f"v,,,ro,0 {sectors} verity 1 D H {shape} {parity}\n".encode())
         done = self.ended("cat", "fec.stack", "v", "D=ro:data", "H=ro:hash", "P=ro:parity")
-        end = len(self.whole[0]) if len(self.gone) == 1 else self.gone[0] * tree.data_block
-        self.check("cat: status", done.returncode, 0 if len(self.gone) == 1 else 3)
+        is_restored = len(self.gone) <= self.roots
+        end = len(self.whole[0]) if is_restored else self.gone[0] * tree.data_block
+        self.check("cat: status", done.returncode, 0 if is_restored else 3)
         self.check("cat: as formatted", done.stdout == self.whole[0][:end], True)
 
     def tried(self):

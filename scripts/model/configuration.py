@@ -226,8 +226,10 @@ class Configuration:
         if isinstance(target, Verity):
             levels = len(Tree(target.data_block, target.hash_block, target.blocks).levels)
             data, tree = lowers[:2]
-            # A block once more, the others of its round and its parity, 255 blocks, for the data block and each hash block on the way.
-            healing = (levels + 1) * 255 * (target.data_block // 512) * max(lowers) if target.parity else 0
+            # For the data block and each hash block on its way: the block once more; twice the others of its round and their parity,
+            # 254 blocks; and the ways to these.
+            restoring = (1 + 254 * (levels + 3)) * (target.data_block // 512)
+            healing = (levels + 1) * restoring * max(lowers) if target.parity else 0
             return target.data_block // 512 * data + levels * (target.hash_block // 512) * tree + healing
         if isinstance(target, Crypt):
             return target.unit() * lowers[0]

@@ -368,10 +368,10 @@ class Stacks(Dice):
         return [b" ".join(pair) for pair in pairs]
 
     def with_lost_blocks(self, tree, image):
-        """The image of a tree, in half of the cases with one or two hash blocks that differ from those that parity covers. The bytes
+        """The image of a tree, in two of three cases with one to five hash blocks that differ from those that parity covers. The bytes
         decide which, so that no other number is drawn."""
         dice, changed = Random(image), bytearray(image)
-        for _ in range(dice.choice([0, 0, 1, 2])):
+        for _ in range(dice.choice([0, 0, 1, 2, 3, 5])):
             place = tree.start + dice.randrange(sum(tree.levels)) if tree.levels else 0
             changed[min(place * tree.hash_block + dice.randrange(tree.hash_block), len(changed) - 1)] ^= 1 << dice.randrange(8)
         return bytes(changed)
@@ -379,7 +379,7 @@ class Stacks(Dice):
     def lose_sectors(self, words, leaf, content):
         """Binds a leaf's bytes, as a file with a map that lacks a few of its sectors."""
         place = [word.partition(b"=")[0] for word in words].index(leaf.name)
-        lost = self.random.sample(range(leaf.sectors), min(leaf.sectors, self.pick([1, 1, 2, 3])))
+        lost = self.random.sample(range(leaf.sectors), min(leaf.sectors, self.pick([1, 1, 2, 3, 6])))
         text = text_of([at not in lost for at in range(leaf.sectors)], self.chance(0.2))
         words[place] = b"%s=ro%%%s:%s" % (leaf.name, self.new_file(text, b"m"), self.new_file(content, b"lost"))
 

@@ -2,7 +2,7 @@
 
 from cipher import xts_decrypt, xts_encrypt
 from configuration import Leaf
-from parity import WORD, summed, total
+from parity import WORD, solved, summed, total
 from tables import LARGE_UNITS, ZERO_BLOCKS, Crypt, Error, Linear, Striped, Unstriped, Verity, Zero
 from verity import Tree, digest
 
@@ -24,6 +24,16 @@ ERROR_TARGET = "fault 1 ErrorTarget"
 MISMATCH = "fault 2 Mismatch"
 # The faults of lines, not of devices.
 OF_LINES = (ERROR_TARGET, MISMATCH)
+
+
+def of_device(fault):
+    return None if fault.text in OF_LINES else fault
+
+
+def unhealed(own, vain):
+    """The fault of a block whose own read ended in one, and the read of its spare in the other: its own, unless a device failed for the
+    spare alone."""
+    return own if of_device(own) else of_device(vain) or own
 
 
 class MemoryImage:
@@ -323,12 +333,87 @@ class Stack:
         return data
 
     def healed(self, target, block, expected, own):
-        """The block that the others of its round and the parity give, if it has the digest; a failed attempt is the block's own fault,
-        unless a device failed in the attempt alone."""
+        """The block that the others of its round and the parity give, if it has the digest: as the only lost one of the round, or else by
+        erasures; a failed attempt is the block's own fault, unless a device failed in the attempt alone."""
         try:
             return self.checked(target, self.restored(target, block), expected)
+        except Fault as alone:
+            try:
+                return self.restored_by_erasures(target, block, expected)
+            except Fault as vain:
+                raise unhealed(own, unhealed(alone, vain))
+
+    def restored_by_erasures(self, target, block, expected):
+        """A block by those of its round that aren't lost, if no more are lost than a codeword has bytes of parity. A lost one whose
+        device failed must have its digest too."""
+        lost, unread = self.losses(target, block)
+        vain = unread[0][2] if unread else Fault(MISMATCH)
+        if len(lost) > target.parity.roots:
+            raise vain
+        try:
+            blocks = self.decoded(target, block, lost)
         except Fault as fault:
-            raise own if fault.text in OF_LINES or own.text not in OF_LINES else fault
+            raise unhealed(vain, fault)
+        wanted = [(0, expected)] + [(column, known) for column, known, _ in unread]
+        if any(digest(target.salt, blocks[column]) != known for column, known in wanted):
+            raise vain
+        return blocks[0]
+
+    def others_of(self, target, block):
+        """The other covered blocks of the round of a block, by their positions."""
+        rounds = -(-target.parity.blocks // (WORD - target.parity.roots))
+        return {at // rounds: at for at in range(block % rounds, target.parity.blocks, rounds) if at != block}
+
+    def losses(self, target, block):
+        """The positions of the lost blocks of a block's round, its own first, at most one more than can be restored; of those whose
+        device failed, which of them it is, the digest and the fault."""
+        rounds = -(-target.parity.blocks // (WORD - target.parity.roots))
+        lost, unread = [block // rounds], []
+        for place, other in self.others_of(target, block).items():
+            if len(lost) <= target.parity.roots:
+                is_lost, known, fault = self.judged(target, other)
+                unread += [(len(lost), known, fault)] if fault else []
+                lost += [place] if is_lost else []
+        return lost, unread
+
+    def judged(self, target, number):
+        """Whether a covered block is lost as it is stored: unreadable, or without the digest that is known; if its device failed, the
+        digest and the fault."""
+        own = failed = known = None
+        try:
+            own = digest(target.salt, self.covered(target, number))
+        except Fault as fault:
+            if not of_device(fault):
+                return True, None, None
+            failed = fault
+        try:
+            known = self.known_digest(target, number)
+        except Fault as fault:
+            if of_device(fault):
+                raise
+        if known is None and failed:
+            raise failed
+        return failed is not None or known not in (None, own), known, failed
+
+    def known_digest(self, target, number):
+        """The digest of a covered block by the hash blocks on its way as they are stored; None if it isn't verified."""
+        tree = Tree(target.data_block, target.hash_block, target.blocks, target.start)
+        way = tree.way(number) if number < target.blocks else tree.way_to_hash_block(target.start + number - target.blocks)
+        if way is None:
+            return None
+        expected, size = target.digest, target.hash_block // SECTOR
+        for place, slot in way:
+            hashes = self.checked(target, self.read_run(self.configuration.lower(target.hash_device), place * size, size), expected)
+            expected = hashes[32 * slot:32 * slot + 32]
+        return expected
+
+    def decoded(self, target, block, lost):
+        """The blocks at the lost positions of the round of a block, by those at the others and the parity."""
+        roots = target.parity.roots
+        kept = [(254 - place, self.covered(target, at)) for place, at in self.others_of(target, block).items() if place not in lost]
+        stored = self.stored_parity(target, block)
+        known = kept + [(roots - 1 - k, stored[k::roots]) for k in range(roots)]
+        return solved([254 - place for place in lost], known, target.data_block)
 
     def covered(self, target, at):
         """Covered block `at`: the data blocks, then the hash device's from the tree on."""
@@ -340,15 +425,17 @@ class Stack:
 
     def restored(self, target, block):
         """The sum of a round's other blocks and of each codeword's bytes of parity: with the lost block all sum to zeros."""
-        parity, size = target.parity, target.data_block // SECTOR
-        places = WORD - parity.roots
-        rounds = -(-parity.blocks // places)
-        others = [at for at in range(block % rounds, parity.blocks, rounds) if at != block]
-        blocks = [self.covered(target, at) for at in others]
-        first = (parity.start + block % rounds * parity.roots) * size
-        stored = self.read_run(self.configuration.lower(parity.device), first, size * parity.roots)
-        sums = bytes(total(stored[at:at + parity.roots]) for at in range(0, len(stored), parity.roots))
+        blocks = [self.covered(target, at) for at in self.others_of(target, block).values()]
+        roots, stored = target.parity.roots, self.stored_parity(target, block)
+        sums = bytes(total(stored[at:at + roots]) for at in range(0, len(stored), roots))
         return summed([*blocks, sums], target.data_block)
+
+    def stored_parity(self, target, block):
+        """The parity of the round of a block."""
+        parity, size = target.parity, target.data_block // SECTOR
+        rounds = -(-parity.blocks // (WORD - parity.roots))
+        first = (parity.start + block % rounds * parity.roots) * size
+        return self.read_run(self.configuration.lower(parity.device), first, size * parity.roots)
 
     def write_run(self, lower, first, data):
         if isinstance(lower, Leaf):

@@ -57,6 +57,14 @@ class Tree:
             block //= self.slots
         return steps[::-1]
 
+    def way_to_hash_block(self, place):
+        """The way to a block of the tree by its number on the hash device; None where there is none."""
+        for level, count in enumerate(self.levels):
+            number = place - self.first(level)
+            if 0 <= number < count:
+                return self.way(number * self.slots ** (level + 1))[:len(self.levels) - 1 - level]
+        return None
+
 
 def digest(salt, block):
     return sha256(salt + block).digest()

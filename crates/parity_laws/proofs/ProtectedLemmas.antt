@@ -1,13 +1,14 @@
 -- The rounds of an image with parity are the former rounds of a line with that parity.
-use Rattle.std.proofs.Common.{◌≡◌, ℕ, ◌+◌, ◌-◌, ◌*◌, ◌/◌, ◌%◌, ◌<◌, ◌≤◌, nat_lt, List, [], length, Ok, inl, inr, sym, ap, ◌∙◌, arith, bit_xor}
+use Rattle.std.proofs.Common.{◌≡◌, ℕ, ◌+◌, ◌-◌, ◌*◌, ◌/◌, ◌%◌, ◌<◌, ◌≤◌, nat_lt, cond, List, [], length, map, inl, inr, sym, subst, ap, ◌∙◌, arith, bit_xor}
 use Rattle.std.specs.Prelude.{slice_index}
 use Rattle.std.specs.Int.{div_ceil}
-use Rattle.std.specs.List.{slice_index_or}
+use Rattle.std.specs.List.{range_with_len, slice_index_or}
 use Rattle.std.proofs.Math.Nat.{mod-lt}
 use Rattle.std.proofs.lemmas.Bool.{cases_lt, cond-true, cond-false, lt-ltb, le-ltb}
-use Rattle.std.proofs.lemmas.Grind.{div_ceil_times}
+use Rattle.std.proofs.lemmas.Grind.{div_ceil_times, same_number_lists}
 use Rattle.std.proofs.lemmas.List.{get_or_past}
-use Rattle.std.proofs.lemmas.List.FromFn.{get_or-map-range_with_len}
+use Rattle.std.proofs.lemmas.List.FromFn.{get_or-map-range_with_len, length-map-range_with_len}
+use Rattle.reed_solomon.specs.Code.{IsCodeword}
 use Rattle.reed_solomon.specs.Field.{total}
 use Rattle.reed_solomon.specs.Sums.{part_sum}
 use Rattle.reed_solomon.proofs.CodeLemmas.{total-same}
@@ -17,14 +18,15 @@ use Rattle.tree_shape.specs.Shape.{ancestor}
 use Rattle.stack_rules.specs.Trees.{block_sectors, round_count, tree_of}
 use Rattle.stack_meaning.specs.Blocks.{covered_hash}
 use Rattle.stack_config.proofs.lemmas.ParityLineLemmas.{parity-line}
+use Rattle.stack_meaning.specs.Erasures.{IsFormerCode, former_word}
 use Rattle.stack_meaning.specs.Spares.{BlockSources, IsFormerRound, former_byte, place_number}
-use Rattle.stack_engine.specs.DamagedData.{DamagedDataIsRead, HasLostOne, line_sources, tree_block}
+use Rattle.stack_engine.specs.DamagedData.{DamagedDataIsRead, IsKeptOrRestorable, line_sources}
 use Rattle.stack_engine.proofs.lemmas.FormattedLemmas.{block-low, facts, line-is}
 use Rattle.verity_format.specs.Blocks.{block_at}
 use Rattle.verity_format.proofs.lemmas.SizeLemmas.{block-inside}
 use Rattle.verity_format.proofs.lemmas.RunLemmas.{block-sized}
 use Rattle.fec_area.specs.declared.layout.Layout.{Layout}
-use Rattle.fec_area.specs.Layouts.{IsLayout, code_rounds, covered, covered_blocks, message_byte}
+use Rattle.fec_area.specs.Layouts.{IsLayout, code_rounds, codeword, covered, covered_blocks, message_byte}
 use Rattle.fec_area.specs.Sums.{RoundsSumToZeros}
 use Rattle.parity_laws.specs.ProtectedLines.{HasKeptRound, IsLayoutOfLine, IsProtectedImage, ProtectedDataIsRead, ProtectedImage, ProtectedRoundsAreFormer, protected_block, protected_data, protected_parity}
 
@@ -85,8 +87,41 @@ module _ (v : Verity) (p : Parity) (l : Layout) (f : ProtectedImage) (laid : IsL
         ∙ zeros;
   }
 
+  -- byte i of codeword c
+  word-byte : ℕ → List ℕ → ℕ → ℕ → ℕ
+  word-byte n parity c i = cond (nat_lt i (255 - l.roots)) (message_byte l f.data_image f.hash_image n c i) (slice_index parity (c * l.roots + (i - (255 - l.roots))))
+
+  word-of : ℕ → List ℕ → ℕ → ℕ → ℕ
+  word-of n parity c i = cond (nat_lt i (255 - p.roots)) (former_byte p (protected_block l f) n c i) (slice_index parity (c * p.roots + (i - (255 - p.roots))))
+
+  byte-same : (n : ℕ) (parity : List ℕ) (c i : ℕ) → word-byte n parity c i ≡ word-of n parity c i
+  byte-same n parity c i =
+      ap (λ m. cond (nat_lt i (255 - m)) (message_byte l f.data_image f.hash_image n c i) (slice_index parity (c * m + (i - (255 - m))))) laid.roots
+      ∙ ap (λ x. cond (nat_lt i (255 - p.roots)) x (slice_index parity (c * p.roots + (i - (255 - p.roots))))) (sym (byte-is n c i))
+
+  word-is : (n : ℕ) (parity : List ℕ) (c : ℕ) → codeword l f.data_image f.hash_image n parity c ≡ former_word p (protected_block l f) n parity c
+  unfolding codeword
+  word-is n parity c =
+      let long : length (map (word-byte n parity c) (range_with_len 0 255)) ≡ 255 = length-map-range_with_len (word-byte n parity c) 0 255 in
+      let also : length (map (word-of n parity c) (range_with_len 0 255)) ≡ 255 = length-map-range_with_len (word-of n parity c) 0 255 in
+      same_number_lists (map (word-byte n parity c) (range_with_len 0 255)) (map (word-of n parity c) (range_with_len 0 255)) (long ∙ sym also)
+      (λ i lt.
+      let low : i < 255 = omega (arith, lt, long) in
+      get_or-map-range_with_len (word-byte n parity c) 0 255 i i 0 low (omega arith)
+      ∙ byte-same n parity c i
+      ∙ sym (get_or-map-range_with_len (word-of n parity c) 0 255 i i 0 low (omega arith)))
+
+  round-code : IsProtectedImage l f → (n : ℕ) → n < round_count p → IsFormerCode v p (protected_block l f) n (protected_parity l f n)
+  round-code image n low = record {
+    sizes = λ j inside. covered-whole l laid.layout f image j (omega (arith, laid.all, inside)) ∙ laid.size;
+    words = λ c lt.
+        let parity = protected_parity l f n in
+        let stored = image.parity_is n (omega (arith, rounds-are, low)) c (omega (arith, laid.size, lt)) in
+        subst (IsCodeword p.roots) (word-is n parity c) (subst (λ m. IsCodeword m (codeword l f.data_image f.hash_image n parity c)) laid.roots stored);
+  }
+
 pub rounds-former : RoundsSumToZeros → ProtectedRoundsAreFormer
-rounds-former law v p l f laid image n low = round-former v p l f laid law image n low
+rounds-former law v p l f laid image n low = (round-former v p l f laid law image n low, round-code v p l f laid image n low)
 
 -- ---- a sector of a line
 
@@ -100,23 +135,21 @@ rounds-some p few some = elim (cases_lt 0 (round_count p)) [
       absurd (omega (arith, nothing, (div_ceil_times p.blocks (255 - p.roots) (omega (arith, few))).0, some))
 ]
 
--- covered block j, which its line reads by the others
-module _ (v : Verity) (p : Parity) (l : Layout) (f : ProtectedImage) (from : BlockSources) (law : RoundsSumToZeros) (laid : IsLayoutOfLine v p l) (image : IsProtectedImage l f) (some : 0 < round_count p) where
-  one-lost : (block : List ℕ) (j : ℕ) → HasKeptRound v p l f from block j → HasLostOne v p from block j
-  one-lost block j kept = elim kept [
+-- covered block j
+module _ (v : Verity) (p : Parity) (l : Layout) (f : ProtectedImage) (from : BlockSources) (laid : IsLayoutOfLine v p l) (image : IsProtectedImage l f) (some : 0 < round_count p) where
+  kept-restorable : (j : ℕ) → HasKeptRound v p l f from j → IsKeptOrRestorable v p from (protected_block l f) j
+  kept-restorable j kept = elim kept [
     | inl own ↦ inl own
     | inr beside ↦
         inr (record {
-          former = protected_block l f;
-          own = beside.0;
           parity = protected_parity l f (j % round_count p);
-          round = round-former v p l f laid law image (j % round_count p) (mod-lt j some);
-          whole = beside.1;
+          code = round-code v p l f laid image (j % round_count p) (mod-lt j some);
+          known = beside;
         })
   ]
 
-pub protected-read : RoundsSumToZeros → DamagedDataIsRead → ProtectedDataIsRead
-protected-read law damaged c loaded images whole d s k line v lies p l f is kept =
+pub protected-read : DamagedDataIsRead → ProtectedDataIsRead
+protected-read damaged c loaded images whole d s k line v lies p l f is kept =
     let i : ℕ = (s - line.start) / block_sectors v in
     let from = line_sources c images v in
     let low = block-low c loaded images whole d s k line v lies in
@@ -129,11 +162,12 @@ protected-read law damaged c loaded images whole d s k line v lies p l f is kept
     data-covered l f.data_image f.hash_image i (omega (arith, is.laid.data_blocks, low))
     ∙ ap (λ n. block_at f.data_image n i) is.laid.size
     ∙ sym (get_or-map-range_with_len (block_at f.data_image v.data_block) 0 v.blocks i i [] low (omega arith)) in
-    let here : HasKeptRound v p l f from block i = elim kept.block [ inl same ↦ inl (same ∙ ap Ok own) | inr beside ↦ inr (own, beside) ] in
-    damaged c loaded images whole d s k line v lies p (protected_data v f) (record {
+    damaged c loaded images whole d s k line v lies p (protected_data v f) (protected_block l f) (record {
       has = is.has;
       sized = is.sized;
       root_is = is.root_is;
-      block = one-lost v p l f from law is.laid is.protected some block i here;
-      path = λ n inside. one-lost v p l f from law is.laid is.protected some (tree_block v (protected_data v f) n i) (covered_hash v n (ancestor (tree_of v) (n + 1) i)) (kept.path n inside);
+      own = own;
+      above = kept.above;
+      block = kept-restorable v p l f from is.laid is.protected some i kept.block;
+      path = λ n inside. kept-restorable v p l f from is.laid is.protected some (covered_hash v n (ancestor (tree_of v) (n + 1) i)) (kept.path n inside);
     })

@@ -15,7 +15,8 @@ use Rattle.stack_rules.specs.Trees.{block_sectors, round_count, tree_of}
 use Rattle.stack_meaning.specs.Blocks.{covered_hash}
 use Rattle.stack_meaning.specs.Meaning.{sector}
 use Rattle.stack_meaning.specs.Outcomes.{AreWhole, Images}
-use Rattle.stack_meaning.specs.Spares.{BlockSources, IsFormerRound, IsWholeBeside, covered_block}
+use Rattle.stack_meaning.specs.Erasures.{IsFormerCode, IsKnownBeside}
+use Rattle.stack_meaning.specs.Spares.{BlockSources, IsFormerRound, covered_block}
 use Rattle.stack_engine.specs.DamagedData.{PathCollides, line_sources, tree_block}
 use Rattle.stack_engine.specs.Laws.{LiesInVerity, formatted_sector, verity_digests}
 use Rattle.verity_format.specs.Blocks.{block_at, blocks_at}
@@ -55,10 +56,11 @@ pub record IsLayoutOfLine (v : Verity) (p : Parity) (l : Layout) : Type 0 where
   pub all : covered_blocks l ≡ p.blocks
   pub roots : l.roots ≡ p.roots
 
+-- with its parity a round sums to zeros, and is a codeword at each byte of its blocks
 abbrev pub ProtectedRoundsAreFormer : Type 0
 ProtectedRoundsAreFormer =
     (v : Verity) (p : Parity) (l : Layout) (f : ProtectedImage) → IsLayoutOfLine v p l → IsProtectedImage l f
-    → (n : ℕ) → n < round_count p → IsFormerRound v p (protected_block l f) n (protected_parity l f n)
+    → (n : ℕ) → n < round_count p → IsFormerRound v p (protected_block l f) n (protected_parity l f n) × IsFormerCode v p (protected_block l f) n (protected_parity l f n)
 
 -- the line has the parity of the image, and the root of the tree of its data blocks
 pub record IsProtectedLine (v : Verity) (p : Parity) (l : Layout) (f : ProtectedImage) : Type 0 where
@@ -68,23 +70,25 @@ pub record IsProtectedLine (v : Verity) (p : Parity) (l : Layout) (f : Protected
   pub sized : AreBlocks v.blocks v.data_block (protected_data v f)
   pub root_is : v.root ≡ root v.hash_block v.salt (verity_digests v (protected_data v f))
 
--- covered block j is that one; or it was when the parity was written, and each other block of its round is unchanged, and so is the
--- round's parity
-abbrev pub HasKeptRound : Verity → Parity → Layout → ProtectedImage → BlockSources → List ℕ → ℕ → Type 0
-HasKeptRound v p l f from block j =
-    (covered_block v from j ≡ Ok block)
-    ⊎ ((protected_block l f j ≡ block) × IsWholeBeside v p from (protected_block l f) j (protected_parity l f (j % round_count p)))
+-- Covered block j is unchanged. Or each other block of its round has the known digest of the one that it was, or is unchanged; at most
+-- as many of the round are lost as a codeword has bytes of parity, and the round's parity is unchanged.
+abbrev pub HasKeptRound : Verity → Parity → Layout → ProtectedImage → BlockSources → ℕ → Type 0
+HasKeptRound v p l f from j =
+    (covered_block v from j ≡ Ok (protected_block l f j)) ⊎ IsKnownBeside v p from (protected_block l f) j (protected_parity l f (j % round_count p))
 
--- data block i of the image is unchanged, or the rest of its round is; and so is each hash block of the tree on the path to it
+-- The hash blocks on the path to data block i, when the parity was written, are those of the tree of the data. That data block and each of
+-- these is unchanged, or enough of its round is.
 pub record HasKeptPath (v : Verity) (p : Parity) (l : Layout) (f : ProtectedImage) (from : BlockSources) (i : ℕ) : Type 0 where
-  pub block : (covered_block v from i ≡ Ok (protected_block l f i)) ⊎ IsWholeBeside v p from (protected_block l f) i (protected_parity l f (i % round_count p))
-  pub path : (k : ℕ) → k < levels (tree_of v) → HasKeptRound v p l f from (tree_block v (protected_data v f) k i) (covered_hash v k (ancestor (tree_of v) (k + 1) i))
+  pub above : (k : ℕ) → k < levels (tree_of v) → protected_block l f (covered_hash v k (ancestor (tree_of v) (k + 1) i)) ≡ tree_block v (protected_data v f) k i
+  pub block : HasKeptRound v p l f from i
+  pub path : (k : ℕ) → k < levels (tree_of v) → HasKeptRound v p l f from (covered_hash v k (ancestor (tree_of v) (k + 1) i))
 
--- a sector of such a line, in data block i, is the image's, or a lost block on its path is one of two different inputs of one digest
+-- a sector of such a line, in data block i, is the image's; or a block on its path is lost, and a block of its round, when the parity was
+-- written, is one of two different inputs of one digest
 abbrev pub ProtectedDataIsRead : Type 0
 ProtectedDataIsRead = (c : Configuration) → IsLoaded c → (images : Images) → AreWhole images
     → (d s k : ℕ) (line : Line) (v : Verity) → LiesInVerity c d s k line v
     → (p : Parity) (l : Layout) (f : ProtectedImage) → IsProtectedLine v p l f
     → HasKeptPath v p l f (line_sources c images v) ((s - line.start) / block_sectors v)
     → (sector c images (mapped d) s ≡ Ok (formatted_sector v (protected_data v f) (s - line.start)))
-    ⊎ PathCollides c images v (protected_data v f) ((s - line.start) / block_sectors v)
+    ⊎ PathCollides c images v p (protected_block l f) ((s - line.start) / block_sectors v)

@@ -5,4 +5,5 @@ pub mod CorrectingLemmas
 pub mod ValueLemmas
 pub mod EncodingLemmas
 pub mod ColumnLemmas
+pub mod ExampleLemmas
 pub mod lemmas

@@ -1,8 +1,15 @@
 -- Factors that recover an erased byte of every codeword, and multiplication by them.
-use Rattle.std.specs.Prelude.{◌≡◌, ℕ, ◌+◌, ◌-◌, ◌*◌, ◌<◌, ◌≤◌, List, length, slice_index, EachIndex}
+use Rattle.std.specs.Prelude.{◌≡◌, ℕ, ◌+◌, ◌-◌, ◌*◌, ◌<◌, ◌≤◌, ◌==◌, List, length, slice_index, EachIndex, if◌then◌else◌}
 use Rattle.std.specs.List.{range_with_len}
-use Rattle.reed_solomon.specs.Field.{field_product, total}
+use Rattle.reed_solomon.specs.Field.{field_inverse, field_product, total}
 use Rattle.reed_solomon.specs.Code.{IsCodeword}
+use Rattle.reed_solomon.specs.Restoring.{weight}
+
+-- the factor of the byte at position i in the sum that is the byte at `place`; 0 at `place` and at the other erasures
+abbrev pub erasure_factor : List ℕ → ℕ → ℕ → ℕ
+erasure_factor lost place i =
+    if i == place then 0
+    else field_product (weight lost place (length lost) i) (field_inverse (weight lost place (length lost) place))
 
 -- For every codeword with at least as many parity bytes as there are erasures, the sum of its bytes times these
 -- factors is its byte at `place`; erased bytes have factor 0.

@@ -18,5 +18,5 @@ pub use correcting::correct;
 pub use encoding::{encode, is_codeword, syndrome};
 pub use field::{inverse, multiply, power};
 pub use products::Products;
-pub use restoring::{combination, factors, restore};
-pub use sums::add_parity;
+pub use restoring::{combination, erasure_factor, factors, restore};
+pub use sums::{add_parity, add_parity_products};

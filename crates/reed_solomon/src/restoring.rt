@@ -1,6 +1,7 @@
 //! Recovery of bytes erased at known positions from the other bytes.
 
 ghost use Rattle.std.specs.Prelude.{◌≡◌, ◌<◌, length, slice_index, EachIndex};
+ghost use Rattle.reed_solomon.specs.Factors.{erasure_factor};
 ghost use Rattle.reed_solomon.specs.Restoring.{weight, combination, AgreesOutside, SumUpToByte, IsRestored};
 
 use crate::field::{inverse, multiply, power};
@@ -39,6 +40,19 @@ pub fn factors(lost: &[usize], place: usize) -> [u8; 255]
         }
     }
     factors
+}
+
+/// Returns the factor of position `i` in the sum of a codeword's bytes that is the byte at `place`; 0 for `place` and the other erasures.
+pub fn erasure_factor(lost: &[usize], place: usize, i: usize) -> u8
+    requires place_in_word { place < 255 }
+    requires i_in_word { i < 255 }
+    requires lost_in_word { EachIndex lost.now (λ k. slice_index lost.now k < 255) }
+    ensures { result ≡ erasure_factor lost.now place i }
+{
+    if i == place {
+        return 0;
+    }
+    multiply(weight(lost, place, i), inverse(weight(lost, place, place)))
 }
 
 /// Returns the sum of a word's bytes, each times its factor.

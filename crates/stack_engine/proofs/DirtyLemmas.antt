@@ -12,7 +12,7 @@ use Rattle.stack_engine.specs.Pieces.{PieceGives}
 use Rattle.stack_engine.specs.Stacks.{StackRecord}
 use Rattle.stack_engine.specs.WritePieces.{PieceHands}
 use Rattle.stack_engine.specs.LeafCalls.{IsLeafCall, LeafCall, LeafCalls}
-use Rattle.stack_engine.specs.SectorCalls.{ReadOf, ReadCalls, WriteTo, WriteCalls, leaf_read, leaf_unread, none_read, line_read, line_unread, units_read, units_unread, part_read, part_unread, zeros_read, fails_read, chain_found, data_read, data_unread, data_full, blocks_read, block_checked, block_differs, block_unread, block_full, hash_kept, hash_full, hash_read, way_had, way_healed, way_lost, way_down, way_stops, way_full, one_ignored, one_read, next_ignored, next_checked, next_healed, next_differs, next_alone, next_unread, together_read, together_lost, together_unread, blocks_end, blocks_next, blocks_full, leaf_written, leaf_unwritten, none_written, line_written, line_unwritten, units_written, each_written, part_written, part_lost, none_stepped, step_written, step_unwritten, zeros_written, fails_written, one_healed, one_kept, one_fetched, spare_none, spare_full, spare_checked, spare_differs, spare_unread, sums_past, sums_added, sums_unread, parity_added, parity_unread}
+use Rattle.stack_engine.specs.SectorCalls.{ReadOf, ReadCalls, WriteTo, WriteCalls, leaf_read, leaf_unread, none_read, line_read, line_unread, units_read, units_unread, part_read, part_unread, zeros_read, fails_read, chain_found, data_read, data_unread, data_full, blocks_read, block_checked, block_differs, block_unread, block_full, hash_kept, hash_full, hash_read, way_had, way_healed, way_lost, way_down, way_stops, way_full, one_ignored, one_read, next_ignored, next_checked, next_healed, next_differs, next_alone, next_unread, together_read, together_lost, together_unread, blocks_end, blocks_next, blocks_full, leaf_written, leaf_unwritten, none_written, line_written, line_unwritten, units_written, each_written, part_written, part_lost, none_stepped, step_written, step_unwritten, zeros_written, fails_written, one_healed, one_kept, one_fetched, spare_only, spare_erased, spare_full, only_none, only_full, only_checked, only_differs, only_unread, sums_past, sums_added, sums_unread, parity_added, parity_unread, erased_none, erased_full, erased_judged, judged_many, judged_past, judged_refused, judged_short, judged_next, judged_stops, judged_full, judged_all, restored_whole, restored_differs, restored_unread, known_none, known_beneath, digest_found, digest_next, digest_stops, columns_past, columns_added, columns_unread, columns_ended, columns_stop}
 
 -- a read or a write
 abbrev pub is_transfer : Call → Bool
@@ -86,16 +86,43 @@ reads-only (together_unread used row settled a) = reads-only a
 reads-only (blocks_end p alone ahead) = tt
 reads-only (blocks_next a) = reads-only a
 reads-only (blocks_full p left alone ahead) = tt
-reads-only (spare_none p expected none) = tt
+reads-only (spare_only settled a) = reads-only a
+reads-only (spare_erased {calls = calls} {later = later} heals a b) = are-append is_read calls later (reads-only a) (reads-only b)
 reads-only (spare_full p expected) = tt
-reads-only (spare_checked has a good) = reads-only a
-reads-only (spare_differs has a other) = reads-only a
-reads-only (spare_unread has a) = reads-only a
-reads-only (sums_past inside none a) = reads-only a
+reads-only (only_none p expected lacks) = tt
+reads-only (only_full p expected) = tt
+reads-only (only_checked has a good) = reads-only a
+reads-only (only_differs has a other) = reads-only a
+reads-only (only_unread has a) = reads-only a
+reads-only (sums_past inside past a) = reads-only a
 reads-only (sums_added {calls = calls} {later = later} inside at a b) = are-append is_read calls later (reads-only a) (reads-only b)
 reads-only (sums_unread sums inside at a) = reads-only a
 reads-only (parity_added sums on a) = reads-only a
 reads-only (parity_unread sums on a) = reads-only a
+reads-only (erased_none p expected lacks) = tt
+reads-only (erased_full p expected) = tt
+reads-only (erased_judged has a) = reads-only a
+reads-only (judged_many p i expected more) = tt
+reads-only (judged_past few inside past a) = reads-only a
+reads-only (judged_refused {calls = calls} {later = later} few inside at a b) = are-append is_read calls later (reads-only a) (reads-only b)
+reads-only (judged_short few inside at a) = reads-only a
+reads-only (judged_next {calls = calls} {path = path} {later = later} judged few inside at a b by d) = are-append is_read calls (path ++ later) (reads-only a) (are-append is_read path later (reads-only b) (reads-only d))
+reads-only (judged_stops {calls = calls} {path = path} few inside at a b by) = are-append is_read calls path (reads-only a) (reads-only b)
+reads-only (judged_full p q i l expected) = tt
+reads-only (judged_all few a) = reads-only a
+reads-only (restored_whole a whole) = reads-only a
+reads-only (restored_differs a other) = reads-only a
+reads-only (restored_unread expected a) = reads-only a
+reads-only (known_none past) = tt
+reads-only (known_beneath at a) = reads-only a
+reads-only (digest_found p expected) = tt
+reads-only (digest_next {calls = calls} {later = later} low a b) = are-append is_read calls later (reads-only a) (reads-only b)
+reads-only (digest_stops low a) = reads-only a
+reads-only (columns_past inside past a) = reads-only a
+reads-only (columns_added {calls = calls} {later = later} inside kept at a b) = are-append is_read calls later (reads-only a) (reads-only b)
+reads-only (columns_unread sums inside kept at a) = reads-only a
+reads-only (columns_ended places sums on a) = reads-only a
+reads-only (columns_stop places sums on a) = reads-only a
 
 pub writes-only : {c : Configuration} {to : WriteTo} {bytes : List ℕ} {calls : List LeafCall} {result : Result Unit IoFault} → WriteCalls c to bytes calls result → AllAre is_transfer calls
 writes-only (leaf_written i s bytes) = (refl, tt)

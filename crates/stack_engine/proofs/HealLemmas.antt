@@ -1,7 +1,7 @@
 -- A data block that is healed, and blocks of another digest.
 use Rattle.std.proofs.Common.{◌≡◌, Bool, true, false, cond, List, ℕ, length, Vec, Global, Option, None, Some, Result, Ok, Err, refl, sym, ap, ◌∙◌, subst}
 use Rattle.std.proofs.lemmas.Slice.Eq.{bytes_eq-Decides}
-use Rattle.std.specs.Prelude.{IsTrue, is_ok, is_some}
+use Rattle.std.specs.Prelude.{IfErr, IfOk, IsTrue, is_ok, is_some}
 use Rattle.std.specs.Str.{bytes_eq}
 use Rattle.allocation.specs.Refusal.{IsOutOfMemory}
 use Rattle.tree_shape.specs.Digests.{digest}
@@ -27,7 +27,10 @@ use Rattle.stack_engine.specs.Healing.{HasNoParity, IsHealed, IsLost, healed_res
 use Rattle.stack_engine.specs.ReadSteps.{ReadsOn}
 use Rattle.stack_engine.specs.Restored.{Served, after_spare}
 use Rattle.stack_engine.specs.SectorCalls.{DataPlace, ReadsBy, spare_full, spare_of}
-use Rattle.stack_engine.specs.Spares.{HealsBy}
+use Rattle.stack_engine.specs.declared.losses.Judged.{Judged}
+use Rattle.stack_engine.specs.declared.losses.Judged.TheVariants as is
+use Rattle.stack_engine.specs.Erasures.{LossRecord, first_failed, judge_by, noted, vain_fault}
+use Rattle.stack_engine.specs.Spares.{HealsBy, NamesLeaf, failed_of}
 use Rattle.stack_engine.proofs.ReadCallLemmas.{reads-none}
 
 pub checked-other : (salt expected block : List ℕ) → (digest salt block ≡ expected → ⊥) → checked salt expected block ≡ Err mismatch
@@ -83,6 +86,28 @@ asks-healed parity (io.Stack own) heals lacks p q = asks-then {x = tt} (asks-as 
 asks-healed parity (io.Device i) heals lacks p q = record { leaf = λ i d out. q.leaf i d out ∙ p.leaf i d out; fault = q.fault; ends = λ none. unprotected parity (lacks none) heals }
 asks-healed parity io.NoMemory heals lacks p q = let clash : false ≡ true = heals in absurd cc
 
+-- two calls of a line with parity, whatever is answered after them
+pub asks-both : {A B C : Type 0} {c : Configuration} {these : ℕ → Bool} {old mid new : List Device} (parity : Option Parity) {first : Result A IoFault} {second : Result B IoFault} (result : Result C IoFault) → IsTrue (is_some parity) → (HasNoParity c → parity ≡ None) → IfErr result (NamesOneOf these)
+    → AsksOnly (HasNoParity c) these old mid first → AsksOnly (HasNoParity c) these mid new second → AsksOnly (HasNoParity c) these old new result
+asks-both parity result some lacks named p q = record { leaf = λ i d out. q.leaf i d out ∙ p.leaf i d out; fault = named; ends = λ none. unprotected parity (lacks none) some }
+
+-- one such call
+pub asks-one : {A B : Type 0} {c : Configuration} {these : ℕ → Bool} {old new : List Device} (parity : Option Parity) {first : Result A IoFault} (result : Result B IoFault) → IsTrue (is_some parity) → (HasNoParity c → parity ≡ None) → IfErr result (NamesOneOf these)
+    → AsksOnly (HasNoParity c) these old new first → AsksOnly (HasNoParity c) these old new result
+asks-one parity result some lacks named p = record { leaf = p.leaf; fault = named; ends = λ none. unprotected parity (lacks none) some }
+
+-- the fault of the first of two attempts, unless it is one of a line
+pub unhealed-named : (these : ℕ → Bool) (own vain : IoFault) → NamesOneOf these own → NamesOneOf these vain → NamesOneOf these (unhealed own vain)
+unhealed-named these (io.Stack own) (io.Stack vain) one two = tt
+unhealed-named these (io.Stack own) (io.Device i) one two = two
+unhealed-named these (io.Stack own) io.NoMemory one two = tt
+unhealed-named these (io.Device j) (io.Stack vain) one two = one
+unhealed-named these (io.Device j) (io.Device i) one two = one
+unhealed-named these (io.Device j) io.NoMemory one two = tt
+unhealed-named these io.NoMemory (io.Stack vain) one two = tt
+unhealed-named these io.NoMemory (io.Device i) one two = two
+unhealed-named these io.NoMemory io.NoMemory one two = tt
+
 abbrev bytes : Vec ℕ Global → List ℕ
 bytes = λ block. block.items
 
@@ -130,3 +155,47 @@ module _ {D : Type 0} (state : D → Device) {does : D → Call → D → Type 0
     counted = refl;
     given = reads-none (spare_full p lost.digest);
   })
+
+-- ---- leaves that are named as blocks are judged
+
+pub unread-named : (these : ℕ → Bool) (leaf : ℕ) (known : Result (List ℕ) IoFault) → NamesOneOf these (io.Device leaf) → IfOk (judge_by (Err leaf) known) (λ judged. NamesLeaf these (failed_of judged))
+unread-named these leaf (Ok digest) named = named
+unread-named these leaf (Err (io.Stack other)) named = tt
+unread-named these leaf (Err (io.Device i)) named = tt
+unread-named these leaf (Err io.NoMemory) named = tt
+
+pub unread-fault : (these : ℕ → Bool) (leaf : ℕ) (known : Result (List ℕ) IoFault) → NamesOneOf these (io.Device leaf) → IfErr known (NamesOneOf these) → IfErr (judge_by (Err leaf) known) (NamesOneOf these)
+unread-fault these leaf (Ok digest) own named = tt
+unread-fault these leaf (Err (io.Stack other)) own named = own
+unread-fault these leaf (Err (io.Device i)) own named = named
+unread-fault these leaf (Err io.NoMemory) own named = tt
+
+pub read-named : (these : ℕ → Bool) (made : List ℕ) (known : Result (List ℕ) IoFault) → IfOk (judge_by (Ok made) known) (λ judged. NamesLeaf these (failed_of judged))
+read-named these made (Ok digest) = go (bytes_eq made digest)
+  where
+    go : (t : Bool) → NamesLeaf these (failed_of (cond t is.Kept is.Lost))
+    go true = tt
+    go false = tt
+read-named these made (Err (io.Stack other)) = tt
+read-named these made (Err (io.Device i)) = tt
+read-named these made (Err io.NoMemory) = tt
+
+pub read-fault : (these : ℕ → Bool) (made : List ℕ) (known : Result (List ℕ) IoFault) → IfErr known (NamesOneOf these) → IfErr (judge_by (Ok made) known) (NamesOneOf these)
+read-fault these made (Ok digest) named = tt
+read-fault these made (Err (io.Stack other)) named = tt
+read-fault these made (Err (io.Device i)) named = named
+read-fault these made (Err io.NoMemory) named = tt
+
+pub vain-named : (these : ℕ → Bool) (failed : Option ℕ) → NamesLeaf these failed → NamesOneOf these (vain_fault failed)
+vain-named these None named = tt
+vain-named these (Some leaf) named = named
+
+-- after the block at a position was noted
+pub names-next : (these : ℕ → Bool) (before : Option ℕ) (l : LossRecord) (i : ℕ) (judged : Judged) → before ≡ l.failed → NamesLeaf these before → NamesLeaf these (failed_of judged) → NamesLeaf these (noted l i judged).failed
+names-next these before l i is.Kept same h k = subst (NamesLeaf these) same h
+names-next these before l i is.Lost same h k = subst (NamesLeaf these) same h
+names-next these before l i (is.Unread leaf digest) same h k = subst (λ (o : Option ℕ). NamesLeaf these (first_failed o leaf)) same (first before h)
+  where
+    first : (o : Option ℕ) → NamesLeaf these o → NamesLeaf these (first_failed o leaf)
+    first None h = k
+    first (Some own) h = h

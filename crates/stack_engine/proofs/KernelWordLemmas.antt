@@ -1,5 +1,5 @@
 -- The words of a `verity` line that are for the kernel alone.
-use Rattle.std.proofs.Common.{◌≡◌, ℕ, zero, suc, ◌+◌, ◌-◌, ◌*◌, ◌/◌, Bool, true, false, cond, List, [], ◌∷◌, length, map, not, Option, Some, None, Ok, Err, refl, sym, ap, ◌∙◌}
+use Rattle.std.proofs.Common.{◌≡◌, ℕ, zero, suc, ◌+◌, ◌-◌, ◌*◌, ◌/◌, ◌%◌, ◌==◌, ◌&&◌, Bool, true, false, cond, List, [], ◌∷◌, ◌++◌, length, map, not, Option, Some, None, Ok, Err, refl, sym, ap, ◌∙◌}
 use Rattle.std.specs.Prelude.{find, nat_lt, position, slice_get, option_map}
 use Rattle.std.specs.List.{enumerate_from, position_or_len}
 use Rattle.std.specs.Option.{option_map_or, option_or}
@@ -18,12 +18,13 @@ use Rattle.stack_rules.specs.Descend.{descend, after_steps, most_devices, by_nam
 use Rattle.stack_rules.specs.Lines.{line_in}
 use Rattle.stack_rules.specs.Names.{mapped, named, path_of, lines_of}
 use Rattle.stack_rules.specs.Records.{Configuration, DeviceRecord, LeafRecord}
-use Rattle.stack_rules.specs.Trees.{tree_of, block_sectors, zero_block}
+use Rattle.stack_rules.specs.Trees.{round_count, tree_of, block_sectors, zero_block}
 use Rattle.stack_rules.specs.targets.Verity.{parity_bases}
 use Rattle.stack_meaning.specs.declared.units.CryptUnits.{CryptUnits}
 use Rattle.stack_meaning.specs.Beneath.{below, beneath, said_or}
-use Rattle.stack_meaning.specs.Blocks.{covered_hash, hash_block_at, hash_sectors, hash_start, next_digest, checked_span, block_below, is_ignored, verified_block}
-use Rattle.stack_meaning.specs.Spares.{BlockSources, covered_spare, healed_outcome}
+use Rattle.stack_meaning.specs.Blocks.{checked, covered_hash, hash_block_at, hash_sectors, hash_start, next_digest, checked_span, block_below, is_ignored, verified_block}
+use Rattle.stack_meaning.specs.Erasures.{PathEnd, covered_spare, digest_at, digest_beneath, erasures_by, is_lost_beside, is_lost_by, lost_places, path_end}
+use Rattle.stack_meaning.specs.Spares.{BlockSources, covered_block, healed_outcome, place_number, spare_block}
 use Rattle.stack_meaning.specs.targets.Verity.{sources_over}
 use Rattle.stack_meaning.specs.Found.{FoundRecord, Entry}
 use Rattle.stack_meaning.specs.Meaning.{IsShown, Said, content_part, leaf_said, line_said, none_said, said_by_name}
@@ -40,10 +41,34 @@ then-same : (x : Outcome) (next other : List ℕ → Outcome) → ((bytes : List
 then-same (Ok bytes) next other same = same bytes
 then-same (Err fault) next other same = refl
 
+-- the same known digests, and so the same lost blocks
+beneath-same : (v : Verity) (from : BlockSources) (i n : ℕ) → digest_beneath (without_kernel_words v) from i n ≡ digest_beneath v from i n
+unfolding digest_beneath
+beneath-same v from i zero = refl
+beneath-same v from i (suc n) =
+    ap (λ (x : Outcome). then_outcome x (λ expected. changed_outcome (next_digest v (levels (tree_of v) - suc n) i) (checked_span from.on_hash (hash_start v (levels (tree_of v) - suc n) i) (hash_sectors v) v.salt expected))) (beneath-same v from i n)
+
+digest-same : (v : Verity) (from : BlockSources) (o : Option PathEnd) → digest_at (without_kernel_words v) from o ≡ digest_at v from o
+digest-same v from None = refl
+digest-same v from (Some end) = beneath-same v from end.index end.above
+
+beside-same : (v : Verity) (p : Parity) (from : BlockSources) (j i : ℕ) → is_lost_beside (without_kernel_words v) p from j i ≡ is_lost_beside v p from j i
+beside-same v p from j i =
+    ap (λ (x : Outcome). not (i == j / round_count p) && (nat_lt (place_number p (j % round_count p) i) p.blocks && is_lost_by v.salt (covered_block v from (place_number p (j % round_count p) i)) x))
+    (digest-same v from (path_end v (place_number p (j % round_count p) i)))
+
+losses-same : (v : Verity) (p : Parity) (from : BlockSources) (j m : ℕ) → lost_places (without_kernel_words v) p from j m ≡ lost_places v p from j m
+unfolding lost_places
+losses-same v p from j zero = refl
+losses-same v p from j (suc m) =
+    ap (λ (b : Bool). cond b (lost_places (without_kernel_words v) p from j m ++ (m ∷ [])) (lost_places (without_kernel_words v) p from j m)) (beside-same v p from j m)
+    ∙ ap (λ (xs : List ℕ). cond (is_lost_beside v p from j m) (xs ++ (m ∷ [])) xs) (losses-same v p from j m)
+
 -- the same spare
 spare-same : (v : Verity) (from : BlockSources) (o : Option Parity) (i : ℕ) (expected : List ℕ) → covered_spare (without_kernel_words v) from o i expected ≡ covered_spare v from o i expected
 spare-same v from None i expected = refl
-spare-same v from (Some p) i expected = refl
+spare-same v from (Some p) i expected =
+    ap (λ (lost : List ℕ). healed_outcome (spare_block v p from i expected) (then_outcome (erasures_by v p from i lost) (checked v.salt expected))) (losses-same v p from i (255 - p.roots))
 
 -- from any level down
 block-same : (v : Verity) (from : BlockSources) (i l : ℕ) (expected : List ℕ) → block_below (without_kernel_words v) from i l expected ≡ block_below v from i l expected

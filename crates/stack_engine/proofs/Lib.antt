@@ -1,6 +1,8 @@
 pub mod lemmas
 pub mod PathBlockLemmas
+pub mod PathEndLemmas
 pub mod CachedLemmas
+pub mod ColumnLemmas
 pub mod StepLemmas
 pub mod WriteStepLemmas
 pub mod PathLemmas
@@ -39,3 +41,12 @@ pub mod HealLemmas
 pub mod SumLemmas
 pub mod MendCallLemmas
 pub mod LostBlockLemmas
+pub mod ColumnSumLemmas
+pub mod LossLemmas
+pub mod JudgeLemmas
+pub mod DecodeLemmas
+pub mod ErasedLemmas
+pub mod MendedLemmas
+pub mod JudgeCallLemmas
+pub mod StoredLemmas
+pub mod FoundLemmas

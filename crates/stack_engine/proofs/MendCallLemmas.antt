@@ -11,8 +11,10 @@ use Rattle.stack_meaning.specs.declared.fault.IoFault.TheVariants as io
 use Rattle.stack_meaning.specs.Spares.{added_block, with_parity}
 use Rattle.stack_lines.specs.declared.source.Source.TheVariants.{Below}
 use Rattle.stack_lines.specs.declared.tree.Extent.{Extent}
+use Rattle.std.specs.Prelude.{IfErr}
+use Rattle.stack_engine.specs.Healing.{IsHealed, IsSettled, healed_result}
 use Rattle.stack_engine.specs.Restored.{Served}
-use Rattle.stack_engine.specs.SectorCalls.{DataPlace, Gives, LeadsTo, ReadOf, ReadsBy, other_at, parity_first, spare_of, sums_of, sums_past, sums_added, sums_unread, parity_added, parity_unread, spare_none, spare_checked, spare_differs, spare_unread}
+use Rattle.stack_engine.specs.SectorCalls.{DataPlace, Gives, LeadsTo, ReadOf, ReadsBy, erased_of, only_of, other_at, parity_first, spare_of, sums_of, sums_past, sums_added, sums_unread, parity_added, parity_unread, only_none, only_checked, only_differs, only_unread, spare_only, spare_erased}
 use Rattle.stack_engine.specs.Spares.{IsStoredAt}
 use Rattle.stack_engine.specs.declared.spare.Stored.{Stored}
 use Rattle.stack_engine.proofs.ReadCallLemmas.{reads-none, reads-as, reads-then}
@@ -38,7 +40,7 @@ module _ {D : Type 0} {does : D → Call → D → Type 0} {c : Configuration} w
 
   -- ---- the parity
 
-  parity-at : {p : DataPlace} {q : Parity} {n : ℕ} {old new : Served D} {answer : Result (List ℕ) IoFault} (at : Stored) → IsStoredAt c p q at → n ≡ at.sectors → Gives does c (Below at.lower at.first) n old new answer
+  pub parity-at : {p : DataPlace} {q : Parity} {n : ℕ} {old new : Served D} {answer : Result (List ℕ) IoFault} (at : Stored) → IsStoredAt c p q at → n ≡ at.sectors → Gives does c (Below at.lower at.first) n old new answer
       → Gives does c (Below at.lower (parity_first p q)) (block_sectors p.verity * q.roots) old new answer
   parity-at {p = p} {q = q} {n = n} {old = old} {new = new} {answer = answer} at stored count got =
       subst (λ (k : ℕ). Gives does c (Below at.lower k) (block_sectors p.verity * q.roots) old new answer) stored.first
@@ -55,17 +57,28 @@ module _ {D : Type 0} {does : D → Call → D → Type 0} {c : Configuration} w
       → ReadsBy does c (sums_of p q (255 - q.roots) sums) old new (Err fault)
   stored-lost sums at stored count got = reads-as (λ calls a. parity_unread sums stored.on a) (parity-at at stored count got)
 
-  -- ---- the spare
+  -- ---- the block as the only lost one of its round
 
-  pub spare-past : (p : DataPlace) (expected : List ℕ) {old : Served D} → p.verity.parity ≡ None → ReadsBy does c (spare_of p expected) old old (Err (io.Stack why.Mismatch))
-  spare-past p expected none = reads-none (spare_none p expected none)
+  pub only-past : (p : DataPlace) (expected : List ℕ) {old : Served D} → p.verity.parity ≡ None → ReadsBy does c (only_of p expected) old old (Err (io.Stack why.Mismatch))
+  only-past p expected none = reads-none (only_none p expected none)
 
   module _ {p : DataPlace} {q : Parity} {expected : List ℕ} (has : p.verity.parity ≡ Some q) {old mid new : Served D} {m : ℕ} {sums : List ℕ} (led : LeadsTo does c (sums_of p q 0 (zero_block p.verity)) (sums_of p q m sums) old mid) where
-    pub spare-lost : {fault : IoFault} → ReadsBy does c (sums_of p q m sums) mid new (Err fault) → ReadsBy does c (spare_of p expected) old new (Err fault)
-    spare-lost {fault = fault} got = reads-as (λ calls a. spare_unread has a) (led.later new (Err fault) got)
+    pub only-lost : {fault : IoFault} → ReadsBy does c (sums_of p q m sums) mid new (Err fault) → ReadsBy does c (only_of p expected) old new (Err fault)
+    only-lost {fault = fault} got = reads-as (λ calls a. only_unread has a) (led.later new (Err fault) got)
 
-    pub spare-given : {bytes : List ℕ} → digest p.verity.salt bytes ≡ expected → ReadsBy does c (sums_of p q m sums) mid new (Ok bytes) → ReadsBy does c (spare_of p expected) old new (Ok bytes)
-    spare-given {bytes = bytes} good got = reads-as (λ calls a. spare_checked has a good) (led.later new (Ok bytes) got)
+    pub only-given : {bytes : List ℕ} → digest p.verity.salt bytes ≡ expected → ReadsBy does c (sums_of p q m sums) mid new (Ok bytes) → ReadsBy does c (only_of p expected) old new (Ok bytes)
+    only-given {bytes = bytes} good got = reads-as (λ calls a. only_checked has a good) (led.later new (Ok bytes) got)
 
-    pub spare-other : {bytes : List ℕ} → (digest p.verity.salt bytes ≡ expected → ⊥) → ReadsBy does c (sums_of p q m sums) mid new (Ok bytes) → ReadsBy does c (spare_of p expected) old new (Err (io.Stack why.Mismatch))
-    spare-other {bytes = bytes} other got = reads-as (λ calls a. spare_differs has a other) (led.later new (Ok bytes) got)
+    pub only-other : {bytes : List ℕ} → (digest p.verity.salt bytes ≡ expected → ⊥) → ReadsBy does c (sums_of p q m sums) mid new (Ok bytes) → ReadsBy does c (only_of p expected) old new (Err (io.Stack why.Mismatch))
+    only-other {bytes = bytes} other got = reads-as (λ calls a. only_differs has a other) (led.later new (Ok bytes) got)
+
+  -- ---- the spare
+
+  -- as that, or its fault stays
+  pub spare-alone : {p : DataPlace} {expected : List ℕ} {old new : Served D} {answer : Result (List ℕ) IoFault} → IfErr answer (IsSettled p.verity.parity) → ReadsBy does c (only_of p expected) old new answer → ReadsBy does c (spare_of p expected) old new answer
+  spare-alone settled got = reads-as (λ calls a. spare_only settled a) got
+
+  -- or by erasures
+  pub spare-by_erasures : {p : DataPlace} {expected : List ℕ} {old mid new : Served D} (fault : IoFault) {answer : Result (List ℕ) IoFault} → IsHealed p.verity.parity fault → ReadsBy does c (only_of p expected) old mid (Err fault) → ReadsBy does c (erased_of p expected) mid new answer
+      → ReadsBy does c (spare_of p expected) old new (healed_result fault answer)
+  spare-by_erasures fault heals alone got = reads-then (λ calls later a b. spare_erased heals a b) alone got

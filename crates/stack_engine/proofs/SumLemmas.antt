@@ -3,11 +3,12 @@ use Rattle.std.proofs.Common.{◌≡◌, ℕ, ◌+◌, ◌*◌, ◌<◌, List, l
 use Rattle.std.specs.Prelude.{slice_index}
 use Rattle.std.specs.List.{range_with_len}
 use Rattle.std.specs.Int.Bits.{xor_zero_l, xor_zero_r}
-use Rattle.std.proofs.lemmas.List.{ext_get_or, get_or-replicate}
+use Rattle.std.proofs.lemmas.List.{ext_get_or, get_or-map, get_or-replicate}
 use Rattle.std.proofs.lemmas.List.FromFn.{get_or-map-range_with_len, length-map-range_with_len}
-use Rattle.reed_solomon.specs.Field.{total}
+use Rattle.reed_solomon.specs.Field.{field_product, total}
 use Rattle.reed_solomon.specs.Products.{AreAdded}
 use Rattle.reed_solomon.specs.Sums.{part_sum}
+use Rattle.stack_meaning.specs.Erasures.{scaled_block}
 use Rattle.stack_meaning.specs.Spares.{added_block}
 
 -- a list to each element of which its addend was added
@@ -33,6 +34,12 @@ one-sum bytes c =
 
 pub added-block : (old new block : List ℕ) → length new ≡ length old → AreAdded (part_sum 1 block) old new → new ≡ added_block old block
 added-block old new block len added = added-is (λ c. slice_index block c) old new len (λ c lt. added c lt ∙ ap (λ (x : ℕ). bit_xor (slice_index old c) x) (one-sum block c))
+
+-- each byte times a factor
+pub added-scaled : (factor : ℕ) (old new block : List ℕ) → length new ≡ length old → length block ≡ length old → AreAdded (λ c. field_product factor (slice_index block c)) old new → new ≡ added_block old (scaled_block factor block)
+added-scaled factor old new block len whole added =
+    added-is (λ c. slice_index (scaled_block factor block) c) old new len
+    (λ c lt. added c lt ∙ ap (λ (x : ℕ). bit_xor (slice_index old c) x) (sym (get_or-map (field_product factor) block c 0 0 (omega (arith, lt, len, whole)))))
 
 -- zeros change no sum
 pub added-zeros : (n : ℕ) (sums : List ℕ) → length sums ≡ n → added_block sums (replicate n 0) ≡ sums

@@ -14,7 +14,8 @@ use Rattle.stack_rules.specs.Trees.{tree_of, block_sectors, round_count}
 use Rattle.stack_meaning.specs.Blocks.{covered_hash, hash_sectors}
 use Rattle.stack_meaning.specs.Meaning.{sector}
 use Rattle.stack_meaning.specs.Outcomes.{Images, AreWhole, span}
-use Rattle.stack_meaning.specs.Spares.{BlockSources, IsFormerRound, IsWholeBeside, covered_block}
+use Rattle.stack_meaning.specs.Erasures.{IsFormerCode, IsKnownBeside}
+use Rattle.stack_meaning.specs.Spares.{BlockSources, covered_block}
 use Rattle.stack_lines.specs.Walks.{block_in, sources_of}
 use Rattle.stack_engine.specs.Laws.{IsSha256Collision, LiesInVerity, formatted_sector, named_sector, verity_digests}
 
@@ -32,48 +33,56 @@ pub record IsTreeOnHash (c : Configuration) (images : Images) (v : Verity) (bloc
 abbrev pub tree_block : Verity → List (List ℕ) → ℕ → ℕ → List ℕ
 tree_block v blocks l i = slice_index_or (level v.hash_block v.salt (verity_digests v blocks) l) (ancestor (tree_of v) (l + 1) i) []
 
--- The parity of the round of covered block j was made of the blocks that the round covers, of which block j is that one. The other
--- blocks of the round are as they were, and its parity is readable.
-pub record IsRestorable (v : Verity) (p : Parity) (from : BlockSources) (block : List ℕ) (j : ℕ) : Type 0 where
-  pub former : ℕ → List ℕ
-  pub own : former j ≡ block
+-- The parity of the round of covered block j was made of the former blocks. Each other block of the round has the known digest of the
+-- former one, or is the former one; at most as many of the round are lost as a codeword has bytes of parity, which are readable.
+pub record IsRestorable (v : Verity) (p : Parity) (from : BlockSources) (former : ℕ → List ℕ) (j : ℕ) : Type 0 where
   pub parity : List ℕ
-  pub round : IsFormerRound v p former (j % round_count p) parity
-  pub whole : IsWholeBeside v p from former j parity
+  pub code : IsFormerCode v p former (j % round_count p) parity
+  pub known : IsKnownBeside v p from former j parity
 
--- covered block j is as it was, or the only lost one of its round
-abbrev pub HasLostOne : Verity → Parity → BlockSources → List ℕ → ℕ → Type 0
-HasLostOne v p from block j = (covered_block v from j ≡ Ok block) ⊎ IsRestorable v p from block j
+-- covered block j is as it was, or can be restored
+abbrev pub IsKeptOrRestorable : Verity → Parity → BlockSources → (ℕ → List ℕ) → ℕ → Type 0
+IsKeptOrRestorable v p from former j = (covered_block v from j ≡ Ok (former j)) ⊎ IsRestorable v p from former j
 
--- The line has this parity and the root of the tree of the blocks. Of the rounds of data block i and of each hash block on the path to
--- it at most one block is lost.
-pub record IsDamaged (c : Configuration) (images : Images) (v : Verity) (p : Parity) (blocks : List (List ℕ)) (i : ℕ) : Type 0 where
+-- The line has this parity and the root of the tree of the blocks. Data block i and each hash block on the path to it, which were
+-- covered as these are, are as they were, or can be restored.
+pub record IsDamaged (c : Configuration) (images : Images) (v : Verity) (p : Parity) (blocks : List (List ℕ)) (former : ℕ → List ℕ) (i : ℕ) : Type 0 where
   pub has : v.parity ≡ Some p
   pub sized : AreBlocks v.blocks v.data_block blocks
   pub root_is : v.root ≡ root v.hash_block v.salt (verity_digests v blocks)
-  pub block : HasLostOne v p (line_sources c images v) (slice_index_or blocks i []) i
-  pub path : (l : ℕ) → l < levels (tree_of v) → HasLostOne v p (line_sources c images v) (tree_block v blocks l i) (covered_hash v l (ancestor (tree_of v) (l + 1) i))
+  pub own : former i ≡ slice_index_or blocks i []
+  pub above : (l : ℕ) → l < levels (tree_of v) → former (covered_hash v l (ancestor (tree_of v) (l + 1) i)) ≡ tree_block v blocks l i
+  pub block : IsKeptOrRestorable v p (line_sources c images v) former i
+  pub path : (l : ℕ) → l < levels (tree_of v) → IsKeptOrRestorable v p (line_sources c images v) former (covered_hash v l (ancestor (tree_of v) (l + 1) i))
 
 -- another block has the digest of this one
 pub record BlockCollides (v : Verity) (block : List ℕ) : Type 0 where
   pub other : List ℕ
   pub collision : IsSha256Collision (v.salt ++ other) (v.salt ++ block)
 
--- it is lost where it is covered block j
-pub record LostCollides (v : Verity) (from : BlockSources) (block : List ℕ) (j : ℕ) : Type 0 where
-  pub lost : covered_block v from j ≢ Ok block
-  pub collides : BlockCollides v block
+-- that of a former block of the round of covered block j
+pub record RoundCollides (v : Verity) (p : Parity) (former : ℕ → List ℕ) (j : ℕ) : Type 0 where
+  pub number : ℕ
+  pub covered : number < p.blocks
+  pub beside : number % round_count p ≡ j % round_count p
+  pub collides : BlockCollides v (former number)
+
+-- covered block j isn't as it was, and a block of its round collides
+pub record LostCollides (v : Verity) (p : Parity) (from : BlockSources) (former : ℕ → List ℕ) (j : ℕ) : Type 0 where
+  pub lost : covered_block v from j ≢ Ok (former j)
+  pub round : RoundCollides v p former j
 
 -- such a block is data block i, or a hash block on the path to it
-abbrev pub PathCollides : Configuration → Images → Verity → List (List ℕ) → ℕ → Type 0
-PathCollides c images v blocks i =
-    LostCollides v (line_sources c images v) (slice_index_or blocks i []) i
-    ⊎ ((l : ℕ) × (l < levels (tree_of v)) × LostCollides v (line_sources c images v) (tree_block v blocks l i) (covered_hash v l (ancestor (tree_of v) (l + 1) i)))
+abbrev pub PathCollides : Configuration → Images → Verity → Parity → (ℕ → List ℕ) → ℕ → Type 0
+PathCollides c images v p former i =
+    LostCollides v p (line_sources c images v) former i
+    ⊎ ((l : ℕ) × (l < levels (tree_of v)) × LostCollides v p (line_sources c images v) former (covered_hash v l (ancestor (tree_of v) (l + 1) i)))
 
--- a sector of such a line, in data block i, is as it was, or a lost block on its path is one of two different inputs of one digest
+-- a sector of such a line, in data block i, is as it was; or a block on its path is lost, and a former block of that round is one of two
+-- different inputs of one digest
 abbrev pub DamagedDataIsRead : Type 0
 DamagedDataIsRead = (c : Configuration) → IsLoaded c → (images : Images) → AreWhole images
     → (d s l : ℕ) (line : Line) (v : Verity) → LiesInVerity c d s l line v
-    → (p : Parity) (blocks : List (List ℕ)) → IsDamaged c images v p blocks ((s - line.start) / block_sectors v)
+    → (p : Parity) (blocks : List (List ℕ)) (former : ℕ → List ℕ) → IsDamaged c images v p blocks former ((s - line.start) / block_sectors v)
     → (sector c images (mapped d) s ≡ Ok (formatted_sector v blocks (s - line.start)))
-    ⊎ PathCollides c images v blocks ((s - line.start) / block_sectors v)
+    ⊎ PathCollides c images v p former ((s - line.start) / block_sectors v)

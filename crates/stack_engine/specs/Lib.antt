@@ -6,6 +6,7 @@ pub mod Backings
 pub mod LeafCalls
 pub mod Restored
 pub mod Healing
+pub mod Erasures
 pub mod SectorCalls
 pub mod Keeping
 pub mod Uncut

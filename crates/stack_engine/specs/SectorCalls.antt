@@ -1,7 +1,7 @@
 -- Which calls on the devices of leaves a read and a write of sectors make, whatever the devices answer: which sectors of which
 -- leaves, in which order, with which bytes, and none after the first that failed. A device is accessed by its longest runs,
 -- and a leaf by one call for each run.
-use Rattle.std.specs.Prelude.{◌≡◌, ℕ, zero, suc, ◌+◌, ◌-◌, ◌*◌, ◌/◌, ◌%◌, ◌<◌, ◌≤◌, ◌==◌, nat_lt, Bool, true, false, if◌then◌else◌, List, [], ◌∷◌, ◌++◌, length, take, drop, replicate, Option, Some, None, option_map, Result, Ok, Err, IfErr}
+use Rattle.std.specs.Prelude.{◌≡◌, ◌⊎◌, ℕ, zero, suc, ◌+◌, ◌-◌, ◌*◌, ◌/◌, ◌%◌, ◌<◌, ◌≤◌, ◌==◌, nat_lt, Bool, true, false, if◌then◌else◌, List, [], ◌∷◌, ◌++◌, length, take, drop, replicate, Option, Some, None, option_map, Result, Ok, Err, IfErr}
 use Rattle.hash_tree.specs.Chain.{ChainRecord, IsGood}
 use Rattle.tree_shape.specs.Digests.{digest, digest_in}
 use Rattle.tree_shape.specs.Shape.{levels, slot, ancestor}
@@ -14,7 +14,9 @@ use Rattle.stack_rules.specs.Names.{mapped}
 use Rattle.stack_rules.specs.Records.{Configuration}
 use Rattle.stack_rules.specs.Trees.{tree_of, block_sectors, round_count, zero_block}
 use Rattle.stack_meaning.specs.Blocks.{covered_hash, hash_sectors, hash_start, next_digest, is_ignored}
+use Rattle.stack_meaning.specs.declared.fault.Fault.{Fault}
 use Rattle.stack_meaning.specs.declared.fault.Fault.TheVariants as why
+use Rattle.stack_meaning.specs.Erasures.{PathEnd, is_among, path_end}
 use Rattle.stack_meaning.specs.declared.fault.IoFault.{IoFault}
 use Rattle.stack_meaning.specs.declared.fault.IoFault.TheVariants as io
 use Rattle.stack_meaning.specs.Meaning.{said_at}
@@ -32,6 +34,9 @@ use Rattle.stack_lines.specs.Sources.{from_unit}
 use Rattle.stack_lines.specs.Walks.{IsBlockOfDigest}
 use Rattle.stack_lines.specs.Writing.{SomeEncrypt}
 use Rattle.stack_engine.specs.Healing.{IsHealed, IsSettled, healed_result, unhealed}
+use Rattle.stack_engine.specs.declared.losses.Judged.{Judged}
+use Rattle.stack_engine.specs.declared.losses.Judged.TheVariants as is
+use Rattle.stack_engine.specs.Erasures.{LossRecord, added_columns, added_parity, are_whole, column, judge_by, no_columns, noted, own_loss, vain_fault}
 use Rattle.stack_engine.specs.LeafCalls.{LeafCall, MakesCalls}
 use Rattle.stack_engine.specs.Restored.{Served, one_more, restored_after}
 use Rattle.verified_cache.specs.Cache.{CachedBlock}
@@ -83,6 +88,9 @@ place_in v tree index = record { verity = v; on_data = tree.data; on_hash = tree
 abbrev pub place_at : VerityPart → ℕ → DataPlace
 place_at x index = record { verity = x.verity.now; on_data = x.data; on_hash = x.hash; on_parity = x.parity; index = index }
 
+abbrev pub at_place : DataPlace → ℕ → DataPlace
+at_place p index = record p { index = index }
+
 abbrev pub next_place : DataPlace → DataPlace
 next_place p = record p { index = p.index + 1 }
 
@@ -107,6 +115,11 @@ other_number q j i =
     if i == j / round_count q then None
     else if nat_lt (place_number q (j % round_count q) i) q.blocks then Some (place_number q (j % round_count q) i)
     else None
+
+-- without parity there is none
+abbrev pub other_in : Option Parity → ℕ → ℕ → Option ℕ
+other_in None j i = None
+other_in (Some q) j i = other_number q j i
 
 -- where it lies
 abbrev pub other_at : DataPlace → Parity → ℕ → Option Extent
@@ -162,7 +175,10 @@ pub record AreReadTogether (p : DataPlace) (last : List ℕ) (left many : ℕ) :
 -- What is read: n sectors of a source; an expected block, or one that may be kept; the hash block of a level on the way to a data
 -- block, of which a digest is expected; what is beneath so many levels of hash blocks, when a digest is expected of the next block,
 -- after a hash block of those bytes; so many data blocks from a place on, of which the first so many are read alone, and those bytes
--- were read before; the spare of a block, of which a digest is expected; what is added to sums for it, from a position of its round on.
+-- were read before; the spare of a block, of which a digest is expected, as the only lost block of its round or by erasures, or either;
+-- what is added to sums for it, from a position of its round on; the lost blocks of its round, judged from a position on, and then it;
+-- the known digest of a covered block; the digest of a verified block, beneath so many hash blocks, when a digest is expected of the next
+-- one; a block by the lost blocks of its round; and what is added to the sums of these, from a position on.
 pub data ReadOf : Type 0 where
   sectors_of : Source → ℕ → ReadOf
   block_of : ExpectedBlock → ReadOf
@@ -171,11 +187,29 @@ pub data ReadOf : Type 0 where
   data_of : DataPlace → ℕ → List ℕ → List ℕ → DataRead → ReadOf
   blocks_of : DataPlace → ℕ → ℕ → List ℕ → ReadOf
   spare_of : DataPlace → List ℕ → ReadOf
+  only_of : DataPlace → List ℕ → ReadOf
   sums_of : DataPlace → Parity → ℕ → List ℕ → ReadOf
+  erased_of : DataPlace → List ℕ → ReadOf
+  judged_of : DataPlace → Parity → ℕ → LossRecord → List ℕ → ReadOf
+  known_of : DataPlace → ℕ → ReadOf
+  digest_of : DataPlace → PathEnd → ℕ → List ℕ → ReadOf
+  restored_of : DataPlace → Parity → LossRecord → List ℕ → ReadOf
+  columns_of : DataPlace → Parity → List ℕ → ℕ → List ℕ → ReadOf
 
 -- data from the root down
 abbrev pub whole_data : DataPlace → DataRead → ReadOf
 whole_data p next = data_of p (levels (tree_of p.verity)) p.verity.root [] next
+
+-- covered block k
+abbrev pub block_at : DataPlace → ℕ → ReadOf
+block_at p k = sectors_of (Below (covered_at p k).lower (covered_at p k).first) (covered_at p k).sectors
+
+-- a block that was read, or whose leaf failed, is judged so by what the read of its known digest ended in
+abbrev pub IsJudgedBy : List ℕ → Result (List ℕ) IoFault → Result (List ℕ) IoFault → Result Judged IoFault → Type 0
+IsJudgedBy salt (Ok block) known judged = judged ≡ judge_by (Ok (digest salt block)) known
+IsJudgedBy salt (Err (io.Device leaf)) known judged = judged ≡ judge_by (Err leaf) known
+IsJudgedBy salt (Err (io.Stack other)) known judged = ⊥
+IsJudgedBy salt (Err io.NoMemory) known judged = ⊥
 
 -- It is read by these calls, and this is answered: the bytes that the calls gave, or decrypted ones. A block of a `verity` line is
 -- answered only if each block on the way to it has the digest that the block before it, as it was read or kept, has for it; nothing
@@ -256,12 +290,17 @@ pub data ReadCalls (c : Configuration) : ReadOf → List LeafCall → ℕ → �
   blocks_end : {from : ℕ} (p : DataPlace) (alone : ℕ) (ahead : List ℕ) → ReadCalls c (blocks_of p zero alone ahead) [] from from (Ok [])
   blocks_next : {from to : ℕ} {p : DataPlace} {left alone : ℕ} {ahead : List ℕ} {calls : List LeafCall} {answer : Result (List ℕ) IoFault} → ReadCalls c (whole_data p (blocks_left (suc left) alone ahead)) calls from to answer → ReadCalls c (blocks_of p (suc left) alone ahead) calls from to answer
   blocks_full : {from : ℕ} (p : DataPlace) (left alone : ℕ) (ahead : List ℕ) → ReadCalls c (blocks_of p left alone ahead) [] from from (Err io.NoMemory)
-  -- the spare of a block: none without parity, or if memory runs out before it; or the sum of the other blocks of its round and of their parity, if it is read and has the digest
-  spare_none : {from : ℕ} (p : DataPlace) (expected : List ℕ) → p.verity.parity ≡ None → ReadCalls c (spare_of p expected) [] from from (Err (io.Stack why.Mismatch))
+  -- the spare of a block: as the only lost one of its round; and if that ends in a fault that is healed, by erasures; or memory runs out
+  spare_only : {from to : ℕ} {p : DataPlace} {expected : List ℕ} {calls : List LeafCall} {answer : Result (List ℕ) IoFault} → IfErr answer (IsSettled p.verity.parity) → ReadCalls c (only_of p expected) calls from to answer → ReadCalls c (spare_of p expected) calls from to answer
+  spare_erased : {from mid to : ℕ} {p : DataPlace} {expected : List ℕ} {calls later : List LeafCall} {fault : IoFault} {answer : Result (List ℕ) IoFault} → IsHealed p.verity.parity fault → ReadCalls c (only_of p expected) calls from mid (Err fault) → ReadCalls c (erased_of p expected) later mid to answer
+      → ReadCalls c (spare_of p expected) (calls ++ later) from to (healed_result fault answer)
   spare_full : {from : ℕ} (p : DataPlace) (expected : List ℕ) → ReadCalls c (spare_of p expected) [] from from (Err io.NoMemory)
-  spare_checked : {from to : ℕ} {p : DataPlace} {q : Parity} {expected bytes : List ℕ} {calls : List LeafCall} → p.verity.parity ≡ Some q → ReadCalls c (sums_of p q 0 (zero_block p.verity)) calls from to (Ok bytes) → digest p.verity.salt bytes ≡ expected → ReadCalls c (spare_of p expected) calls from to (Ok bytes)
-  spare_differs : {from to : ℕ} {p : DataPlace} {q : Parity} {expected bytes : List ℕ} {calls : List LeafCall} → p.verity.parity ≡ Some q → ReadCalls c (sums_of p q 0 (zero_block p.verity)) calls from to (Ok bytes) → (digest p.verity.salt bytes ≡ expected → ⊥) → ReadCalls c (spare_of p expected) calls from to (Err (io.Stack why.Mismatch))
-  spare_unread : {from to : ℕ} {p : DataPlace} {q : Parity} {expected : List ℕ} {calls : List LeafCall} {fault : IoFault} → p.verity.parity ≡ Some q → ReadCalls c (sums_of p q 0 (zero_block p.verity)) calls from to (Err fault) → ReadCalls c (spare_of p expected) calls from to (Err fault)
+  -- as the only lost one: none without parity, or if memory runs out before it; or the sum of the other blocks of its round and of their parity, if it is read and has the digest
+  only_none : {from : ℕ} (p : DataPlace) (expected : List ℕ) → p.verity.parity ≡ None → ReadCalls c (only_of p expected) [] from from (Err (io.Stack why.Mismatch))
+  only_full : {from : ℕ} (p : DataPlace) (expected : List ℕ) → ReadCalls c (only_of p expected) [] from from (Err io.NoMemory)
+  only_checked : {from to : ℕ} {p : DataPlace} {q : Parity} {expected bytes : List ℕ} {calls : List LeafCall} → p.verity.parity ≡ Some q → ReadCalls c (sums_of p q 0 (zero_block p.verity)) calls from to (Ok bytes) → digest p.verity.salt bytes ≡ expected → ReadCalls c (only_of p expected) calls from to (Ok bytes)
+  only_differs : {from to : ℕ} {p : DataPlace} {q : Parity} {expected bytes : List ℕ} {calls : List LeafCall} → p.verity.parity ≡ Some q → ReadCalls c (sums_of p q 0 (zero_block p.verity)) calls from to (Ok bytes) → (digest p.verity.salt bytes ≡ expected → ⊥) → ReadCalls c (only_of p expected) calls from to (Err (io.Stack why.Mismatch))
+  only_unread : {from to : ℕ} {p : DataPlace} {q : Parity} {expected : List ℕ} {calls : List LeafCall} {fault : IoFault} → p.verity.parity ≡ Some q → ReadCalls c (sums_of p q 0 (zero_block p.verity)) calls from to (Err fault) → ReadCalls c (only_of p expected) calls from to (Err fault)
   -- the blocks at the positions of the round, in order: none, or one that is added; and then the parity
   sums_past : {from to : ℕ} {p : DataPlace} {q : Parity} {i : ℕ} {sums : List ℕ} {calls : List LeafCall} {answer : Result (List ℕ) IoFault} → i < 255 - q.roots → other_at p q i ≡ None → ReadCalls c (sums_of p q (suc i) sums) calls from to answer → ReadCalls c (sums_of p q i sums) calls from to answer
   sums_added : {from mid to : ℕ} {p : DataPlace} {q : Parity} {i : ℕ} {e : Extent} {sums block : List ℕ} {calls later : List LeafCall} {answer : Result (List ℕ) IoFault} → i < 255 - q.roots → other_at p q i ≡ Some e → ReadCalls c (sectors_of (Below e.lower e.first) e.sectors) calls from mid (Ok block)
@@ -271,6 +310,49 @@ pub data ReadCalls (c : Configuration) : ReadOf → List LeafCall → ℕ → �
       → ReadCalls c (sums_of p q (255 - q.roots) sums) calls from to (Ok (with_parity q.roots sums parity))
   parity_unread : {from to : ℕ} {p : DataPlace} {q : Parity} {x : Lower} (sums : List ℕ) {calls : List LeafCall} {fault : IoFault} → p.on_parity ≡ Some x → ReadCalls c (sectors_of (Below x (parity_first p q)) (block_sectors p.verity * q.roots)) calls from to (Err fault)
       → ReadCalls c (sums_of p q (255 - q.roots) sums) calls from to (Err fault)
+  -- by erasures: none without parity, or if memory runs out before it; or after the lost blocks of the round were judged
+  erased_none : {from : ℕ} (p : DataPlace) (expected : List ℕ) → p.verity.parity ≡ None → ReadCalls c (erased_of p expected) [] from from (Err (io.Stack why.Mismatch))
+  erased_full : {from : ℕ} (p : DataPlace) (expected : List ℕ) → ReadCalls c (erased_of p expected) [] from from (Err io.NoMemory)
+  erased_judged : {from to : ℕ} {p : DataPlace} {q : Parity} {expected : List ℕ} {calls : List LeafCall} {answer : Result (List ℕ) IoFault} → p.verity.parity ≡ Some q → ReadCalls c (judged_of p q 0 (own_loss (p.index / round_count q)) expected) calls from to answer → ReadCalls c (erased_of p expected) calls from to answer
+  -- the positions of the round, in order: more blocks are lost than can be restored, or there is no other block
+  judged_many : {from : ℕ} {q : Parity} {l : LossRecord} (p : DataPlace) (i : ℕ) (expected : List ℕ) → q.roots < length l.places → ReadCalls c (judged_of p q i l expected) [] from from (Err (vain_fault l.failed))
+  judged_past : {from to : ℕ} {p : DataPlace} {q : Parity} {i : ℕ} {l : LossRecord} {expected : List ℕ} {calls : List LeafCall} {answer : Result (List ℕ) IoFault} → length l.places ≤ q.roots → i < 255 - q.roots → other_number q p.index i ≡ None → ReadCalls c (judged_of p q (suc i) l expected) calls from to answer → ReadCalls c (judged_of p q i l expected) calls from to answer
+  -- a line beneath refuses it; or memory runs out as it is read; or it is read, or its leaf fails, and then its known digest is read, by
+  -- which it is judged, or which can't be read
+  judged_refused : {from mid to k : ℕ} {p : DataPlace} {q : Parity} {i : ℕ} {l : LossRecord} {expected : List ℕ} {calls later : List LeafCall} {other : Fault} {answer : Result (List ℕ) IoFault} → length l.places ≤ q.roots → i < 255 - q.roots → other_number q p.index i ≡ Some k → ReadCalls c (block_at p k) calls from mid (Err (io.Stack other))
+      → ReadCalls c (judged_of p q (suc i) (noted l i is.Lost) expected) later mid to answer → ReadCalls c (judged_of p q i l expected) (calls ++ later) from to answer
+  judged_short : {from to k : ℕ} {p : DataPlace} {q : Parity} {i : ℕ} {l : LossRecord} {expected : List ℕ} {calls : List LeafCall} → length l.places ≤ q.roots → i < 255 - q.roots → other_number q p.index i ≡ Some k → ReadCalls c (block_at p k) calls from to (Err io.NoMemory) → ReadCalls c (judged_of p q i l expected) calls from to (Err io.NoMemory)
+  judged_next : {from mid next to k : ℕ} {p : DataPlace} {q : Parity} {i : ℕ} {l : LossRecord} {expected : List ℕ} {calls path later : List LeafCall} {own known answer : Result (List ℕ) IoFault} (judged : Judged) → length l.places ≤ q.roots → i < 255 - q.roots → other_number q p.index i ≡ Some k
+      → ReadCalls c (block_at p k) calls from mid own → ReadCalls c (known_of p k) path mid next known → IsJudgedBy p.verity.salt own known (Ok judged)
+      → ReadCalls c (judged_of p q (suc i) (noted l i judged) expected) later next to answer → ReadCalls c (judged_of p q i l expected) (calls ++ (path ++ later)) from to answer
+  judged_stops : {from mid to k : ℕ} {p : DataPlace} {q : Parity} {i : ℕ} {l : LossRecord} {expected : List ℕ} {calls path : List LeafCall} {own known : Result (List ℕ) IoFault} {fault : IoFault} → length l.places ≤ q.roots → i < 255 - q.roots → other_number q p.index i ≡ Some k
+      → ReadCalls c (block_at p k) calls from mid own → ReadCalls c (known_of p k) path mid to known → IsJudgedBy p.verity.salt own known (Err fault) → ReadCalls c (judged_of p q i l expected) (calls ++ path) from to (Err fault)
+  judged_full : {from : ℕ} (p : DataPlace) (q : Parity) (i : ℕ) (l : LossRecord) (expected : List ℕ) → ReadCalls c (judged_of p q i l expected) [] from from (Err io.NoMemory)
+  -- all were judged, and the block is restored, or the attempt is in vain
+  judged_all : {from to : ℕ} {p : DataPlace} {q : Parity} {l : LossRecord} {expected : List ℕ} {calls : List LeafCall} {answer : Result (List ℕ) IoFault} → length l.places ≤ q.roots → ReadCalls c (restored_of p q l expected) calls from to answer
+      → ReadCalls c (judged_of p q (255 - q.roots) l expected) calls from to (healed_result (vain_fault l.failed) answer)
+  -- the sums of the lost blocks, which have their digests or not, or can't be read
+  restored_whole : {from to : ℕ} {p : DataPlace} {q : Parity} {l : LossRecord} {expected sums : List ℕ} {calls : List LeafCall} → ReadCalls c (columns_of p q l.places 0 (no_columns p.verity.data_block l.places)) calls from to (Ok sums) → are_whole p.verity l expected sums ≡ true
+      → ReadCalls c (restored_of p q l expected) calls from to (Ok (column p.verity.data_block sums 0))
+  restored_differs : {from to : ℕ} {p : DataPlace} {q : Parity} {l : LossRecord} {expected sums : List ℕ} {calls : List LeafCall} → ReadCalls c (columns_of p q l.places 0 (no_columns p.verity.data_block l.places)) calls from to (Ok sums) → are_whole p.verity l expected sums ≡ false
+      → ReadCalls c (restored_of p q l expected) calls from to (Err (io.Stack why.Mismatch))
+  restored_unread : {from to : ℕ} {p : DataPlace} {q : Parity} {l : LossRecord} (expected : List ℕ) {calls : List LeafCall} {fault : IoFault} → ReadCalls c (columns_of p q l.places 0 (no_columns p.verity.data_block l.places)) calls from to (Err fault) → ReadCalls c (restored_of p q l expected) calls from to (Err fault)
+  -- the known digest: none, if the block isn't verified; or that beneath the hash blocks on its path
+  known_none : {from k : ℕ} {p : DataPlace} → path_end p.verity k ≡ None → ReadCalls c (known_of p k) [] from from (Err (io.Stack why.Mismatch))
+  known_beneath : {from to k : ℕ} {p : DataPlace} {end : PathEnd} {calls : List LeafCall} {answer : Result (List ℕ) IoFault} → path_end p.verity k ≡ Some end → ReadCalls c (digest_of p end 0 p.verity.root) calls from to answer → ReadCalls c (known_of p k) calls from to answer
+  -- the digest beneath all hash blocks on the path; or the next of these, which has its own, as it is stored or kept
+  digest_found : {from : ℕ} {end : PathEnd} (p : DataPlace) (expected : List ℕ) → ReadCalls c (digest_of p end end.above expected) [] from from (Ok expected)
+  digest_next : {from mid to n : ℕ} {p : DataPlace} {end : PathEnd} {expected block : List ℕ} {calls later : List LeafCall} {answer : Result (List ℕ) IoFault} → n < end.above → ReadCalls c (hash_of (expected_hash (at_place p end.index) (levels (tree_of p.verity) - suc n) expected)) calls from mid (Ok block)
+      → ReadCalls c (digest_of p end (suc n) (next_digest p.verity (levels (tree_of p.verity) - suc n) end.index block)) later mid to answer → ReadCalls c (digest_of p end n expected) (calls ++ later) from to answer
+  digest_stops : {from to n : ℕ} {p : DataPlace} {end : PathEnd} {expected : List ℕ} {calls : List LeafCall} {fault : IoFault} → n < end.above → ReadCalls c (hash_of (expected_hash (at_place p end.index) (levels (tree_of p.verity) - suc n) expected)) calls from to (Err fault) → ReadCalls c (digest_of p end n expected) calls from to (Err fault)
+  -- the blocks at the positions that aren't lost, in order, and then the parity, which are added to the sums of the lost ones
+  columns_past : {from to : ℕ} {p : DataPlace} {q : Parity} {places sums : List ℕ} {i : ℕ} {calls : List LeafCall} {answer : Result (List ℕ) IoFault} → i < 255 - q.roots → (is_among places i ≡ true) ⊎ (other_at p q i ≡ None) → ReadCalls c (columns_of p q places (suc i) sums) calls from to answer → ReadCalls c (columns_of p q places i sums) calls from to answer
+  columns_added : {from mid to : ℕ} {p : DataPlace} {q : Parity} {places sums block : List ℕ} {i : ℕ} {e : Extent} {calls later : List LeafCall} {answer : Result (List ℕ) IoFault} → i < 255 - q.roots → is_among places i ≡ false → other_at p q i ≡ Some e → ReadCalls c (sectors_of (Below e.lower e.first) e.sectors) calls from mid (Ok block)
+      → ReadCalls c (columns_of p q places (suc i) (added_columns p.verity.data_block places i block sums)) later mid to answer → ReadCalls c (columns_of p q places i sums) (calls ++ later) from to answer
+  columns_unread : {from to : ℕ} {p : DataPlace} {q : Parity} {places : List ℕ} {i : ℕ} {e : Extent} (sums : List ℕ) {calls : List LeafCall} {fault : IoFault} → i < 255 - q.roots → is_among places i ≡ false → other_at p q i ≡ Some e → ReadCalls c (sectors_of (Below e.lower e.first) e.sectors) calls from to (Err fault) → ReadCalls c (columns_of p q places i sums) calls from to (Err fault)
+  columns_ended : {from to : ℕ} {p : DataPlace} {q : Parity} {x : Lower} {parity : List ℕ} (places sums : List ℕ) {calls : List LeafCall} → p.on_parity ≡ Some x → ReadCalls c (sectors_of (Below x (parity_first p q)) (block_sectors p.verity * q.roots)) calls from to (Ok parity)
+      → ReadCalls c (columns_of p q places (255 - q.roots) sums) calls from to (Ok (added_parity places q.roots p.verity.data_block parity sums))
+  columns_stop : {from to : ℕ} {p : DataPlace} {q : Parity} {x : Lower} (places sums : List ℕ) {calls : List LeafCall} {fault : IoFault} → p.on_parity ≡ Some x → ReadCalls c (sectors_of (Below x (parity_first p q)) (block_sectors p.verity * q.roots)) calls from to (Err fault) → ReadCalls c (columns_of p q places (255 - q.roots) sums) calls from to (Err fault)
 
 abbrev pub AreReadCalls : Configuration → Source → ℕ → List LeafCall → ℕ → ℕ → Result (List ℕ) IoFault → Type 0
 AreReadCalls c source n = ReadCalls c (sectors_of source n)

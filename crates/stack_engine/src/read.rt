@@ -1,5 +1,5 @@
 //! Reads through the lines of a stack, down to its leaves.
-ghost use Rattle.std.specs.Prelude.{◌≡◌, false, ◌≤◌, ◌<◌, ◌+◌, ◌-◌, ◌*◌, ◌/◌, ◌%◌, length, map, take, get_or, All, OnOk, IfOk, IfErr, Some, Err};
+ghost use Rattle.std.specs.Prelude.{ℕ, ◌≡◌, false, ◌≤◌, ◌<◌, ◌+◌, ◌-◌, ◌*◌, ◌/◌, ◌%◌, length, map, take, get_or, All, OnOk, IfOk, IfErr, Some, Err};
 ghost use Rattle.block_device.specs.Call.{DeviceDoes};
 ghost use Rattle.tree_shape.specs.Shape.{levels};
 ghost use Rattle.dm_table.specs.declared.parity.Parity.{Parity};
@@ -10,14 +10,15 @@ ghost use Rattle.stack_meaning.specs.Reading.{buffer_answer};
 ghost use Rattle.stack_lines.specs.Extents.{LiesInsideLower};
 ghost use Rattle.stack_lines.specs.Touches.{leaves_of};
 ghost use Rattle.stack_engine.specs.Healing.{HealsFault, IsLost, row_answer};
-ghost use Rattle.stack_lines.specs.Walks.{HasDataBlock, HasVerifiedBlock, block_in};
+ghost use Rattle.stack_lines.specs.Walks.{HasDataBlock, HasVerifiedBlock, IsTreeOf, block_in};
 ghost use Rattle.stack_lines.specs.Caches.{IsPlaceOf, hash_stored};
 ghost use Rattle.stack_meaning.specs.Blocks.{is_ignored};
 ghost use Rattle.verified_cache.specs.Cache.{CachedBlock};
 ghost use Rattle.stack_engine.specs.Backings.{leaves_in, IsBacking, Asks, StaysSound, did};
-ghost use Rattle.stack_engine.specs.SectorCalls.{block_of, hash_of, one_asked, place_in, spare_of, sums_of, way_of, whole_data};
+ghost use Rattle.stack_engine.specs.Erasures.{end_of, no_columns, record_of};
+ghost use Rattle.stack_engine.specs.SectorCalls.{block_of, columns_of, digest_of, erased_of, hash_of, known_of, one_asked, only_of, place_in, restored_of, spare_of, sums_of, way_of, whole_data};
 ghost use Rattle.stack_engine.specs.ReadSteps.{all_of, CanFill, StepFrom, StepAt, ReadsOn, GivesFrom, GivesAt, GivesAny, GivesData, GivesOnWay, WalksTo, GotAt, GetsBy, extent_wanted, data_wanted, hash_wanted, way_wanted, ChainBy, WalkedBy, ReadsWay, expected_in, block_answer, content_answer};
-ghost use Rattle.stack_engine.specs.Spares.{AddsTo, HealsBy, SettlesBy, other_wanted, spare_wanted, stored_wanted};
+ghost use Rattle.stack_engine.specs.Spares.{AddsColumns, AddsTo, AreFound, AreLossesOf, AreUnfound, DigestBy, FindsNext, HealsBy, IsCoveredBy, IsJudged, IsUnjudged, JudgesBlock, NamesLeaf, SettlesBy, columns_wanted, decoded_wanted, digest_wanted, erased_wanted, failed_of, judge_cost, kept_wanted, known_digest_wanted, only_wanted, other_wanted, restored_wanted, spare_wanted, stored_digest_wanted, stored_wanted};
 ghost use Rattle.stack_engine.specs.Keeping.{ReadsAs, ReadsSourceAs};
 ghost use Rattle.stack_engine.specs.Held.{IsHeld};
 
@@ -25,10 +26,13 @@ use crate::backing::Backing;
 use crate::buffer::{fill_zeros, zero_block, zero_sectors};
 use crate::kept_data::kept_data;
 use crate::leaf::read_leaf;
+use crate::losses::{Judged, Losses, take_first};
 use crate::path::{Chains, PathBlock, WantedBlock, WantedData, put, stands};
+use crate::path_end::{PathEnd, path_end};
 use crate::rows::{JudgedBlock, NextBlock, alone_as_far, judge, read_as_far, row_len, settle};
 use crate::spare::{
-    LostBlock, add_block, add_stored, can_heal, one_more, other_extent, stored_extent, unhealed,
+    LostBlock, add_block, add_stored, can_heal, covered_by, judge_by, one_more, other_covered,
+    other_extent, own_loss, stored_extent, unhealed,
 };
 use allocation::push;
 use block_device::BlockDev;
@@ -616,7 +620,7 @@ fn add_parity<D: BlockDev>(
     }
 }
 
-/// The spare of a block: the sum of the other blocks of its round and of their parity, if it has the digest.
+/// The spare of a block: that by exclusive-or, or else by erasures.
 #[cycle(read)]
 fn mend<D: BlockDev>(
     config: &Config,
@@ -633,6 +637,38 @@ fn mend<D: BlockDev>(
     ensures cached { StaysSound D.state config.now backing.old backing.new }
     ensures touches { Asks D.state config.now (leaves_of config.now (mapped tree.now.device.0)) backing.old backing.new result }
     ensures given { ReadsOn (DeviceDoes D.state D.does) config.now (spare_of (place_in verity.now tree.now lost.now.index) lost.now.digest) backing.old backing.new (buffer_answer result out.new) }
+{
+    match mend_only(config, backing, verity, tree, lost, out) {
+        Ok(()) => Ok(()),
+        Err(alone) => {
+            if can_heal(verity, alone) {
+                return match mend_erased(config, backing, verity, tree, lost, out) {
+                    Ok(()) => Ok(()),
+                    Err(vain) => Err(unhealed(alone, vain)),
+                };
+            }
+            Err(alone)
+        }
+    }
+}
+
+/// The spare of a block as the only lost one of its round: the sum of the other blocks and of their parity, if it has the digest.
+#[cycle(read)]
+fn mend_only<D: BlockDev>(
+    config: &Config,
+    backing: &mut Backing<D>,
+    verity: &Verity,
+    tree: &Tree,
+    lost: &LostBlock,
+    out: &mut [u8],
+) -> Result<(), IoFault>
+    requires stack { IsBacking D.state config.now backing.old }
+    requires block { HasVerifiedBlock config.now verity.now tree.now lost.now.index }
+    requires size { length out.old ≡ verity.now.data_block }
+    ensures reads { GetsBy D.state (only_wanted config.now verity.now lost.now) backing.old backing.new (buffer_answer result out.new) }
+    ensures cached { StaysSound D.state config.now backing.old backing.new }
+    ensures touches { Asks D.state config.now (leaves_of config.now (mapped tree.now.device.0)) backing.old backing.new result }
+    ensures given { ReadsOn (DeviceDoes D.state D.does) config.now (only_of (place_in verity.now tree.now lost.now.index) lost.now.digest) backing.old backing.new (buffer_answer result out.new) }
 {
     let index = lost.index;
     let count = match &verity.parity {
@@ -655,6 +691,378 @@ fn mend<D: BlockDev>(
         return Ok(());
     }
     Err(IoFault::Stack(Fault::Mismatch))
+}
+
+/// The spare of a block by the lost blocks of its round as erasures, if it has the digest.
+#[cycle(read)]
+fn mend_erased<D: BlockDev>(
+    config: &Config,
+    backing: &mut Backing<D>,
+    verity: &Verity,
+    tree: &Tree,
+    lost: &LostBlock,
+    out: &mut [u8],
+) -> Result<(), IoFault>
+    requires stack { IsBacking D.state config.now backing.old }
+    requires block { HasVerifiedBlock config.now verity.now tree.now lost.now.index }
+    requires size { length out.old ≡ verity.now.data_block }
+    ensures reads { GetsBy D.state (erased_wanted config.now verity.now lost.now) backing.old backing.new (buffer_answer result out.new) }
+    ensures cached { StaysSound D.state config.now backing.old backing.new }
+    ensures touches { Asks D.state config.now (leaves_of config.now (mapped tree.now.device.0)) backing.old backing.new result }
+    ensures given { ReadsOn (DeviceDoes D.state D.does) config.now (erased_of (place_in verity.now tree.now lost.now.index) lost.now.digest) backing.old backing.new (buffer_answer result out.new) }
+{
+    let roots = match &verity.parity {
+        None => return Err(IoFault::Stack(Fault::Mismatch)),
+        Some(parity) => parity.roots as usize,
+    };
+    let losses = match find_losses(config, backing, verity, tree, lost) {
+        Err(full) => return Err(full),
+        Ok(losses) => losses,
+    };
+    if losses.places.len() > roots {
+        return Err(losses.vain());
+    }
+    match restore(config, backing, verity, tree, &losses, out) {
+        Ok(()) => Ok(()),
+        Err(fault) => Err(unhealed(losses.vain(), fault)),
+    }
+}
+
+/// The lost blocks of the round of a block, itself among them: all, or more than can be restored.
+#[cycle(read)]
+fn find_losses<D: BlockDev>(
+    config: &Config,
+    backing: &mut Backing<D>,
+    verity: &Verity,
+    tree: &Tree,
+    lost: &LostBlock,
+) -> Result<Losses, IoFault>
+    requires stack { IsBacking D.state config.now backing.old }
+    requires block { HasVerifiedBlock config.now verity.now tree.now lost.now.index }
+    ensures same { IfOk result (λ l. l.lost ≡ lost.now) }
+    ensures named { IfOk result (λ l. NamesLeaf (leaves_of config.now (mapped tree.now.device.0)) l.failed) }
+    ensures ok { IfOk result (λ l. (q : Parity) → verity.now.parity ≡ Some q → AreFound D.state (DeviceDoes D.state D.does) config.now (place_in verity.now tree.now lost.now.index) q backing.old backing.new (record_of l)) }
+    ensures err { IfErr result (λ fault. (q : Parity) → verity.now.parity ≡ Some q → AreUnfound D.state (DeviceDoes D.state D.does) config.now (place_in verity.now tree.now lost.now.index) q backing.old backing.new fault) }
+    ensures cached { StaysSound D.state config.now backing.old backing.new }
+    ensures touches { Asks D.state config.now (leaves_of config.now (mapped tree.now.device.0)) backing.old backing.new result }
+{
+    let mut losses = match own_loss(backing.alloc, config, verity, tree, lost) {
+        Err(_) => return Err(IoFault::NoMemory),
+        Ok(losses) => losses,
+    };
+    let roots = match &verity.parity {
+        None => return Ok(losses),
+        Some(parity) => parity.roots,
+    };
+    let count = 255 - roots;
+    let mut place = 0;
+    while place < count {
+        if losses.places.len() > roots as usize {
+            return Ok(losses);
+        }
+        match judge_other(config, backing, verity, tree, place, &mut losses) {
+            Err(full) => return Err(full),
+            Ok(()) => place += 1,
+        }
+    }
+    Ok(losses)
+}
+
+/// Judges the block at a position of the round of a block, unless it is that one, or there is none.
+#[cycle(read)]
+fn judge_other<D: BlockDev>(
+    config: &Config,
+    backing: &mut Backing<D>,
+    verity: &Verity,
+    tree: &Tree,
+    place: u32,
+    losses: &mut Losses,
+) -> Result<(), IoFault>
+    requires stack { IsBacking D.state config.now backing.old }
+    requires block { HasVerifiedBlock config.now verity.now tree.now losses.old.lost.index }
+    ensures same { OnOk result (losses.new.lost ≡ losses.old.lost) }
+    ensures named { OnOk result (NamesLeaf (leaves_of config.now (mapped tree.now.device.0)) losses.old.failed → NamesLeaf (leaves_of config.now (mapped tree.now.device.0)) losses.new.failed) }
+    ensures finds { (q : Parity) → verity.now.parity ≡ Some q → length losses.old.places.items ≤ q.roots → place < 255 - q.roots
+        → FindsNext D.state (DeviceDoes D.state D.does) config.now (place_in verity.now tree.now losses.old.lost.index) q place (record_of losses.old) (record_of losses.new) backing.old backing.new result }
+    ensures cached { StaysSound D.state config.now backing.old backing.new }
+    ensures touches { Asks D.state config.now (leaves_of config.now (mapped tree.now.device.0)) backing.old backing.new result }
+{
+    match other_covered(config, verity, tree, losses.lost.index, place) {
+        None => Ok(()),
+        Some(number) => match judge_block(config, backing, verity, tree, number) {
+            Err(full) => Err(full),
+            Ok(judged) => match losses.note(place, judged) {
+                Err(_) => Err(IoFault::NoMemory),
+                Ok(()) => Ok(()),
+            },
+        },
+    }
+}
+
+/// Whether a covered block is lost, as it and the hash blocks on its path are stored.
+#[cycle(read)]
+fn judge_block<D: BlockDev>(
+    config: &Config,
+    backing: &mut Backing<D>,
+    verity: &Verity,
+    tree: &Tree,
+    number: u64,
+) -> Result<Judged, IoFault>
+    requires stack { IsBacking D.state config.now backing.old }
+    requires block { IsCoveredBy config.now verity.now tree.now number }
+    ensures ok { IfOk result (IsJudged config.now verity.now number (leaves_in D.state backing.old) (leaves_in D.state backing.new)) }
+    ensures named { IfOk result (λ judged. NamesLeaf (leaves_of config.now (mapped tree.now.device.0)) (failed_of judged)) }
+    ensures err { IfErr result (IsUnjudged (block_in config.now verity.now number) (judge_cost (block_in config.now verity.now number)) (leaves_in D.state backing.old) (leaves_in D.state backing.new)) }
+    ensures cached { StaysSound D.state config.now backing.old backing.new }
+    ensures touches { Asks D.state config.now (leaves_of config.now (mapped tree.now.device.0)) backing.old backing.new result }
+    ensures given { JudgesBlock (DeviceDoes D.state D.does) config.now verity.now tree.now number backing.old backing.new result }
+{
+    match stored_digest(config, backing, verity, tree, number) {
+        Err(IoFault::Stack(_)) => Ok(Judged::Lost),
+        Err(IoFault::NoMemory) => Err(IoFault::NoMemory),
+        Err(IoFault::Device(leaf)) => {
+            let known = known_digest(config, backing, verity, tree, number);
+            judge_by(Err(leaf), known)
+        }
+        Ok(own) => {
+            let known = known_digest(config, backing, verity, tree, number);
+            judge_by(Ok(own), known)
+        }
+    }
+}
+
+/// The digest of a covered block, as it is stored.
+#[cycle(read)]
+fn stored_digest<D: BlockDev>(
+    config: &Config,
+    backing: &mut Backing<D>,
+    verity: &Verity,
+    tree: &Tree,
+    number: u64,
+) -> Result<Digest, IoFault>
+    requires stack { IsBacking D.state config.now backing.old }
+    requires block { IsCoveredBy config.now verity.now tree.now number }
+    ensures reads { GetsBy D.state (stored_digest_wanted config.now verity.now number) backing.old backing.new result }
+    ensures cached { StaysSound D.state config.now backing.old backing.new }
+    ensures touches { Asks D.state config.now (leaves_of config.now (mapped tree.now.device.0)) backing.old backing.new result }
+    ensures given { DigestBy (DeviceDoes D.state D.does) config.now (place_in verity.now tree.now number) number backing.old backing.new result }
+{
+    match covered_by(config, verity, tree, number) {
+        None => Err(IoFault::Stack(Fault::Mismatch)),
+        Some(extent) => {
+            let mut room = [0u8; MOST_BLOCK];
+            let all = room.as_mut_slice();
+            let block = &mut all[..extent.sectors as usize * 512];
+            match read_beneath(config, backing, extent.lower, extent.first, block) {
+                Err(fault) => Err(fault),
+                Ok(()) => Ok(verity.salt.digest(block)),
+            }
+        }
+    }
+}
+
+/// The digest that is expected of a covered block, if each hash block on its path, as it is stored, has its own.
+#[cycle(read)]
+fn known_digest<D: BlockDev>(
+    config: &Config,
+    backing: &mut Backing<D>,
+    verity: &Verity,
+    tree: &Tree,
+    number: u64,
+) -> Result<Digest, IoFault>
+    requires stack { IsBacking D.state config.now backing.old }
+    requires tree { IsTreeOf config.now verity.now tree.now }
+    ensures reads { GetsBy D.state (known_digest_wanted config.now verity.now number) backing.old backing.new result }
+    ensures cached { StaysSound D.state config.now backing.old backing.new }
+    ensures touches { Asks D.state config.now (leaves_of config.now (mapped tree.now.device.0)) backing.old backing.new result }
+    ensures given { (j : ℕ) → ReadsOn (DeviceDoes D.state D.does) config.now (known_of (place_in verity.now tree.now j) number) backing.old backing.new result }
+{
+    match path_end(config, verity, tree, number) {
+        None => Err(IoFault::Stack(Fault::Mismatch)),
+        Some(end) => digest_beneath(config, backing, verity, tree, end),
+    }
+}
+
+/// The digest that is expected of a verified block, if each hash block on its path, as it is stored, has its own.
+#[cycle(read)]
+fn digest_beneath<D: BlockDev>(
+    config: &Config,
+    backing: &mut Backing<D>,
+    verity: &Verity,
+    tree: &Tree,
+    end: PathEnd,
+) -> Result<Digest, IoFault>
+    requires stack { IsBacking D.state config.now backing.old }
+    requires block { HasDataBlock config.now verity.now tree.now end.index }
+    requires above { end.above ≤ levels (tree_of verity.now) }
+    ensures reads { GetsBy D.state (digest_wanted config.now verity.now end.index end.above) backing.old backing.new result }
+    ensures cached { StaysSound D.state config.now backing.old backing.new }
+    ensures touches { Asks D.state config.now (leaves_of config.now (mapped tree.now.device.0)) backing.old backing.new result }
+    ensures given { (j : ℕ) → ReadsOn (DeviceDoes D.state D.does) config.now (digest_of (place_in verity.now tree.now j) (end_of end) 0 verity.now.root) backing.old backing.new result }
+{
+    let index = end.index;
+    let mut digest = verity.root;
+    let mut height = tree.shape.levels();
+    let last = height - end.above;
+    while height > last {
+        height -= 1;
+        let extent = hash_extent(config, verity, tree, height, index);
+        let key = hash_key(tree, height, index);
+        match hash_block(config, backing, key, extent, &verity.salt, &digest) {
+            Err(stops) => return Err(stops),
+            Ok(block) => {
+                digest = digest_in(block.as_slice(), tree.shape.slot_on_path(height, index));
+            }
+        }
+    }
+    Ok(digest)
+}
+
+/// The first of the lost blocks of a round, if it has its digest, and so has each whose leaf failed.
+#[cycle(read)]
+fn restore<D: BlockDev>(
+    config: &Config,
+    backing: &mut Backing<D>,
+    verity: &Verity,
+    tree: &Tree,
+    losses: &Losses,
+    out: &mut [u8],
+) -> Result<(), IoFault>
+    requires stack { IsBacking D.state config.now backing.old }
+    requires block { HasVerifiedBlock config.now verity.now tree.now losses.now.lost.index }
+    requires losses { AreLossesOf verity.now losses.now.lost.index (record_of losses.now) }
+    requires few { length losses.now.places.items ≤ 24 }
+    requires size { length out.old ≡ verity.now.data_block }
+    ensures reads { (q : Parity) → verity.now.parity ≡ Some q → GetsBy D.state (restored_wanted (block_in config.now verity.now losses.now.lost.index) q (record_of losses.now) losses.now.lost.digest) backing.old backing.new (buffer_answer result out.new) }
+    ensures cached { StaysSound D.state config.now backing.old backing.new }
+    ensures touches { Asks D.state config.now (leaves_of config.now (mapped tree.now.device.0)) backing.old backing.new result }
+    ensures given { (q : Parity) → verity.now.parity ≡ Some q → ReadsOn (DeviceDoes D.state D.does) config.now (restored_of (place_in verity.now tree.now losses.now.lost.index) q (record_of losses.now) losses.now.lost.digest) backing.old backing.new (buffer_answer result out.new) }
+{
+    let size = out.len();
+    let mut room = [0u8; MOST_STORED];
+    let all = room.as_mut_slice();
+    let sums = &mut all[..losses.room(size)];
+    match decode(config, backing, verity, tree, losses, sums) {
+        Err(fault) => return Err(fault),
+        Ok(()) => {}
+    }
+    if losses.are_whole(verity, sums) {
+        take_first(sums, out);
+        return Ok(());
+    }
+    Err(IoFault::Stack(Fault::Mismatch))
+}
+
+/// The lost blocks of a round by its other blocks and its parity.
+#[cycle(read)]
+fn decode<D: BlockDev>(
+    config: &Config,
+    backing: &mut Backing<D>,
+    verity: &Verity,
+    tree: &Tree,
+    losses: &Losses,
+    sums: &mut [u8],
+) -> Result<(), IoFault>
+    requires stack { IsBacking D.state config.now backing.old }
+    requires block { HasVerifiedBlock config.now verity.now tree.now losses.now.lost.index }
+    requires losses { AreLossesOf verity.now losses.now.lost.index (record_of losses.now) }
+    requires size { length sums.old ≡ length losses.now.places.items * verity.now.data_block }
+    ensures reads { (q : Parity) → verity.now.parity ≡ Some q → GetsBy D.state (decoded_wanted (block_in config.now verity.now losses.now.lost.index) q losses.now.places.items) backing.old backing.new (buffer_answer result sums.new) }
+    ensures cached { StaysSound D.state config.now backing.old backing.new }
+    ensures touches { Asks D.state config.now (leaves_of config.now (mapped tree.now.device.0)) backing.old backing.new result }
+    ensures given { (q : Parity) → verity.now.parity ≡ Some q → ReadsOn (DeviceDoes D.state D.does) config.now (columns_of (place_in verity.now tree.now losses.now.lost.index) q losses.now.places.items 0 (no_columns verity.now.data_block losses.now.places.items)) backing.old backing.new (buffer_answer result sums.new) }
+{
+    let count = match &verity.parity {
+        None => return Ok(()),
+        Some(parity) => 255 - parity.roots,
+    };
+    fill_zeros(sums);
+    let mut place = 0;
+    while place < count {
+        match add_kept(config, backing, verity, tree, (losses, place), sums) {
+            Err(unread) => return Err(unread),
+            Ok(()) => place += 1,
+        }
+    }
+    add_columns(config, backing, verity, tree, losses, sums)
+}
+
+/// Adds to the sums of each lost block the block at a position of the round, times its factor, unless it is lost, or there is none.
+#[cycle(read)]
+fn add_kept<D: BlockDev>(
+    config: &Config,
+    backing: &mut Backing<D>,
+    verity: &Verity,
+    tree: &Tree,
+    at: (&Losses, u32),
+    sums: &mut [u8],
+) -> Result<(), IoFault>
+    requires stack { IsBacking D.state config.now backing.old }
+    requires block { HasVerifiedBlock config.now verity.now tree.now at.0.now.lost.index }
+    requires losses { AreLossesOf verity.now at.0.now.lost.index (record_of at.0.now) }
+    requires place { at.1 < 255 }
+    requires size { length sums.old ≡ length at.0.now.places.items * verity.now.data_block }
+    ensures reads { (q : Parity) → verity.now.parity ≡ Some q → at.entry.1 < 255 - q.roots → GetsBy D.state (kept_wanted (block_in config.now verity.now at.entry.0.now.lost.index) q at.entry.0.now.places.items at.entry.1 sums.old) backing.old backing.new (buffer_answer result sums.new) }
+    ensures cached { StaysSound D.state config.now backing.old backing.new }
+    ensures touches { Asks D.state config.now (leaves_of config.now (mapped tree.now.device.0)) backing.old backing.new result }
+    ensures given { (q : Parity) → verity.now.parity ≡ Some q → at.entry.1 < 255 - q.roots → AddsColumns (DeviceDoes D.state D.does) config.now (place_in verity.now tree.now at.entry.0.now.lost.index) q at.entry.0.now.places.items at.entry.1 sums.old backing.old backing.new (buffer_answer result sums.new) }
+{
+    let (losses, place) = at;
+    if losses.has(place) {
+        return Ok(());
+    }
+    match other_extent(config, verity, tree, losses.lost.index, place) {
+        None => Ok(()),
+        Some(extent) => {
+            let mut room = [0u8; MOST_BLOCK];
+            let all = room.as_mut_slice();
+            let block = &mut all[..extent.sectors as usize * 512];
+            match read_beneath(config, backing, extent.lower, extent.first, block) {
+                Err(fault) => Err(fault),
+                Ok(()) => {
+                    losses.add_block(place, block, sums);
+                    Ok(())
+                }
+            }
+        }
+    }
+}
+
+/// Adds to the sums of each lost block the parity of the round, each byte times the factor of its position.
+#[cycle(read)]
+fn add_columns<D: BlockDev>(
+    config: &Config,
+    backing: &mut Backing<D>,
+    verity: &Verity,
+    tree: &Tree,
+    losses: &Losses,
+    sums: &mut [u8],
+) -> Result<(), IoFault>
+    requires stack { IsBacking D.state config.now backing.old }
+    requires block { HasVerifiedBlock config.now verity.now tree.now losses.now.lost.index }
+    requires losses { AreLossesOf verity.now losses.now.lost.index (record_of losses.now) }
+    requires size { length sums.old ≡ length losses.now.places.items * verity.now.data_block }
+    ensures reads { (q : Parity) → verity.now.parity ≡ Some q → GetsBy D.state (columns_wanted (block_in config.now verity.now losses.now.lost.index) q losses.now.places.items sums.old) backing.old backing.new (buffer_answer result sums.new) }
+    ensures cached { StaysSound D.state config.now backing.old backing.new }
+    ensures touches { Asks D.state config.now (leaves_of config.now (mapped tree.now.device.0)) backing.old backing.new result }
+    ensures given { (q : Parity) → verity.now.parity ≡ Some q → ReadsOn (DeviceDoes D.state D.does) config.now (columns_of (place_in verity.now tree.now losses.now.lost.index) q losses.now.places.items (255 - q.roots) sums.old) backing.old backing.new (buffer_answer result sums.new) }
+{
+    match stored_extent(config, verity, tree, losses.lost.index) {
+        None => Ok(()),
+        Some(stored) => {
+            let mut room = [0u8; MOST_STORED];
+            let all = room.as_mut_slice();
+            let parity = &mut all[..stored.sectors as usize * 512];
+            match read_beneath(config, backing, stored.lower, stored.first, parity) {
+                Err(fault) => Err(fault),
+                Ok(()) => {
+                    let roots = parity.len() / verity.data_block as usize;
+                    losses.add_parity(parity, roots, sums);
+                    Ok(())
+                }
+            }
+        }
+    }
 }
 
 /// A hash block: the one that is kept under its key and that digest, or it is read, checked, and then kept.

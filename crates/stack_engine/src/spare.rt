@@ -1,22 +1,30 @@
 //! The spare of a block: the sum, by exclusive-or, of the other blocks of its round and of their parity.
-ghost use Rattle.std.specs.Prelude.{◌≡◌, ◌≤◌, ◌<◌, ◌/◌, ◌%◌, length, IfSome, IsSome, Some};
+ghost use Rattle.std.specs.Prelude.{◌≡◌, ◌≤◌, ◌<◌, ◌*◌, ◌/◌, ◌%◌, length, slice_index, IfOk, IfSome, IsSome, None, OnErr, Some};
 ghost use Rattle.dm_table.specs.declared.parity.Parity.{Parity};
 ghost use Rattle.dm_table.specs.Grammar.{IsParityOfGrammar};
 ghost use Rattle.stack_rules.specs.Rules.{IsLoaded};
+ghost use Rattle.stack_meaning.specs.Erasures.{scaled_block, with_scaled_parity};
+ghost use Rattle.stack_meaning.specs.Memory.{largest_allocation};
 ghost use Rattle.stack_meaning.specs.Spares.{added_block, with_parity};
 ghost use Rattle.stack_lines.specs.Extents.{LiesInsideLower};
 ghost use Rattle.stack_lines.specs.Walks.{HasVerifiedBlock};
-ghost use Rattle.stack_engine.specs.SectorCalls.{other_by, other_number, place_in};
+ghost use Rattle.allocation.specs.Refusal.{IsOutOfMemory};
+ghost use Rattle.stack_rules.specs.Trees.{round_count};
+ghost use Rattle.stack_engine.specs.Erasures.{judge_by, own_loss, record_of};
+ghost use Rattle.stack_engine.specs.SectorCalls.{covered_at, other_by, other_in, other_number, place_in};
 ghost use Rattle.stack_engine.specs.Healing.{can_heal, first_device, unhealed};
 ghost use Rattle.stack_engine.specs.Restored.{one_more};
-ghost use Rattle.stack_engine.specs.Spares.{IsStoredAt};
+ghost use Rattle.stack_engine.specs.Spares.{IsCoveredBy, IsStoredAt};
 
+use crate::losses::{Judged, Losses};
+use allocation::{OutOfMemory, push};
 use dm_table::{Parity, Verity};
-use reed_solomon::add_parity;
+use reed_solomon::{Products, add_parity, add_parity_products};
 use stack_config::{Config, Lower};
 use stack_lines::tree::{Extent, Tree, covered_extent, parity_start};
 use stack_meaning::IoFault;
 use stack_rules::round_count;
+use std::alloc::Global;
 use tree_shape::Digest;
 
 /// A block that isn't readable or has another digest, by its number among those that parity covers, and the digest that is expected of
@@ -161,6 +169,125 @@ pub(crate) fn stored_extent(
                     sectors: verity.data_block / 512 * parity.roots,
                 })
             }
+        },
+    }
+}
+
+/// Adds to the sums the bytes of a block, each times the factor.
+pub(crate) fn add_scaled_block(factor: u8, block: &[u8], sums: &mut [u8])
+    requires { length block.now ≡ length sums.old }
+    ensures { sums.new ≡ added_block sums.old (scaled_block factor block.now) }
+{
+    Products::by(factor).add_to(sums, block);
+}
+
+/// Adds to the sums of blocks the parity of their round, each byte of a codeword times its factor.
+pub(crate) fn add_scaled_stored(factors: &[u8], stored: &[u8], sums: &mut [u8])
+    requires { length stored.now ≡ length sums.old * length factors.now }
+    ensures { sums.new ≡ with_scaled_parity (slice_index factors.now) (length factors.now) sums.old stored.now }
+{
+    add_parity_products(factors, stored, sums);
+}
+
+/// The number of the covered block at a position of the round of a block, unless it is that block, or there is none.
+pub(crate) fn other_covered(
+    config: &Config,
+    verity: &Verity,
+    tree: &Tree,
+    index: u64,
+    place: u32,
+) -> Option<u64>
+    requires loaded { IsLoaded config.now }
+    requires block { HasVerifiedBlock config.now verity.now tree.now index }
+    ensures is { result ≡ other_in verity.now.parity index place }
+    ensures covered { IfSome result (IsCoveredBy config.now verity.now tree.now) }
+{
+    let (_config, _tree) = (config, tree);
+    match &verity.parity {
+        None => None,
+        Some(parity) => other_number(parity, index, place),
+    }
+}
+
+/// Where a covered block lies.
+pub(crate) fn covered_by(
+    config: &Config,
+    verity: &Verity,
+    tree: &Tree,
+    number: u64,
+) -> Option<Extent>
+    requires loaded { IsLoaded config.now }
+    requires block { IsCoveredBy config.now verity.now tree.now number }
+    ensures is { result ≡ Some (covered_at (place_in verity.now tree.now number) number) }
+    ensures lies { IfSome result (LiesInsideLower config.now) }
+{
+    match &verity.parity {
+        None => None,
+        Some(parity) => Some(covered_extent(config, verity, parity, tree, number)),
+    }
+}
+
+/// The position of a block in its round.
+fn place_of(parity: &Parity, index: u64) -> usize
+    requires grammar { IsParityOfGrammar parity.now }
+    requires inside { index < parity.now.blocks }
+    ensures { result ≡ index / round_count parity.now }
+{
+    (index / round_count(parity)) as usize
+}
+
+/// A block as the only lost one of its round.
+pub(crate) fn own_loss(
+    alloc: Global,
+    config: &Config,
+    verity: &Verity,
+    tree: &Tree,
+    lost: &LostBlock,
+) -> Result<Losses, OutOfMemory>
+    requires loaded { IsLoaded config.now }
+    requires block { HasVerifiedBlock config.now verity.now tree.now lost.now.index }
+    ensures ok { IfOk result (λ l. l.lost ≡ lost.now) }
+    ensures place { IfOk result (λ l. (q : Parity) → verity.now.parity ≡ Some q → record_of l ≡ own_loss (lost.now.index / round_count q)) }
+    ensures none { IfOk result (λ l. l.failed ≡ None) }
+    ensures err { OnErr result (IsOutOfMemory largest_allocation) }
+{
+    let (_config, _tree) = (config, tree);
+    let place = match &verity.parity {
+        None => 0,
+        Some(parity) => place_of(parity, lost.index),
+    };
+    let mut places = Vec::new(alloc);
+    push(&mut places, place)?;
+    Ok(Losses {
+        lost: *lost,
+        places,
+        unread: Vec::new(alloc),
+        failed: None,
+    })
+}
+
+/// Whether a block is lost that has that digest, or whose leaf failed, if the digest that is expected of it could be read: one without a
+/// known digest isn't lost, and can't be if its leaf failed.
+pub(crate) fn judge_by(
+    own: Result<Digest, u32>,
+    known: Result<Digest, IoFault>,
+) -> Result<Judged, IoFault>
+    ensures { result ≡ judge_by own known }
+{
+    match known {
+        Err(IoFault::Stack(_)) => match own {
+            Ok(_) => Ok(Judged::Kept),
+            Err(leaf) => Err(IoFault::Device(leaf)),
+        },
+        Err(IoFault::Device(failed)) => Err(IoFault::Device(failed)),
+        Err(IoFault::NoMemory) => Err(IoFault::NoMemory),
+        Ok(digest) => match own {
+            Ok(made) => Ok(if made == digest {
+                Judged::Kept
+            } else {
+                Judged::Lost
+            }),
+            Err(leaf) => Ok(Judged::Unread(leaf, digest)),
         },
     }
 }

@@ -12,7 +12,7 @@ use Rattle.stack_rules.specs.Records.{Configuration}
 use Rattle.stack_rules.specs.Names.{named}
 use Rattle.stack_rules.specs.Descend.{by_name, read_cost}
 use Rattle.stack_rules.specs.TargetRules.{greatest}
-use Rattle.stack_rules.specs.Trees.{tree_of, block_sectors, path_blocks, path_sectors}
+use Rattle.stack_rules.specs.Trees.{tree_of, block_sectors, path_blocks, path_sectors, spare_blocks}
 use Rattle.stack_rules.specs.targets.Verity.{mend_cost}
 use Rattle.stack_meaning.specs.declared.fault.IoFault.{IoFault}
 use Rattle.stack_lines.specs.declared.tree.Tree.{Tree}
@@ -21,7 +21,8 @@ use Rattle.stack_meaning.specs.declared.fault.Fault.{Fault}
 use Rattle.stack_meaning.specs.Agreement.{AgreesOn, LineAgrees}
 use Rattle.stack_meaning.specs.Beneath.{below}
 use Rattle.stack_meaning.specs.Outcomes.{Outcome, mismatch, Images}
-use Rattle.stack_meaning.specs.Spares.{BlockSources, covered_spare, healed_outcome, verified_blocks}
+use Rattle.stack_meaning.specs.Erasures.{covered_spare}
+use Rattle.stack_meaning.specs.Spares.{BlockSources, healed_outcome, verified_blocks}
 use Rattle.stack_meaning.specs.targets.Verity.{sources_over}
 use Rattle.stack_meaning.specs.Blocks.{covered_hash, hash_sectors, hash_start, checked_span, data_block_at, block_below, verified_block, BlockMeets}
 use Rattle.stack_meaning.specs.Leaves.{steady_images, AreRead}
@@ -129,7 +130,7 @@ pub record AgreesAt (b : DataBlock) (images : Images) : Type 0 where
 -- the most leaf sectors that are read for a spare, from what is read for a sector of each device: 0 without parity
 abbrev pub spare_cost_by : Verity → Option Parity → List ℕ → ℕ
 spare_cost_by v None costs = 0
-spare_cost_by v (Some parity) costs = 254 * block_sectors v * greatest costs
+spare_cost_by v (Some parity) costs = spare_blocks v * block_sectors v * greatest costs
 
 abbrev pub spare_cost : DataBlock → ℕ
 spare_cost b = spare_cost_by b.verity b.verity.parity (b.on_data.cost ∷ b.on_hash.cost ∷ b.on_parity.cost ∷ [])

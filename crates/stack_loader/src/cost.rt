@@ -72,6 +72,7 @@ fn cost_at(costs: &[u64], lowers: &[Lower], i: usize) -> u128
 
 /// Returns the cost of restoring one block of a `verity` line, or 0 if the line has no parity.
 fn mend_cost(costs: &[u64], verity: &Verity, lowers: &[Lower]) -> u128
+    requires { IsVerityOfGrammar verity.now }
     ensures value { result ≡ mend_cost verity.now verity.now.parity (map (cost_in costs.now) lowers.now) }
     ensures fits { result < 2 ^ 96 }
 {

@@ -1,5 +1,6 @@
 -- Worked values of the definitions.
-use Rattle.std.proofs.Common.{◌≡◌, ℕ, List, [], ◌∷◌, ◌++◌, ◌-◌, ◌^◌, replicate, refl, codes, true, Ok, Err}
+use Rattle.std.proofs.Common.{◌≡◌, ℕ, List, [], ◌∷◌, ◌++◌, ◌-◌, ◌^◌, replicate, refl, codes, true, Ok, Err, Option, Some, None}
+use Rattle.tree_shape.specs.Shape.{ShapeRecord, level_blocks, levels, shape_with}
 use Rattle.block_device.specs.Device.{filled_sector, ramp_image, zeros_image}
 use Rattle.dm_table.specs.Crypt.{sector_size, iv_large_sectors}
 use Rattle.dm_table.specs.declared.table.Base.{Base}
@@ -13,6 +14,7 @@ use Rattle.stack_meaning.specs.Outcomes.{Outcome, span, error_target, mismatch, 
 use Rattle.stack_meaning.specs.Meaning.{said_at, sector}
 use Rattle.stack_meaning.specs.Puts.{done, stopped, put_on}
 use Rattle.stack_meaning.specs.declared.units.CryptUnits.{CryptUnits}
+use Rattle.stack_meaning.specs.Erasures.{PathEnd, tree_block}
 use Rattle.stack_meaning.specs.Found.{FoundRecord}
 use Rattle.stack_meaning.specs.Units.{size_sectors, size_of, units_of, crypt_unit_number}
 
@@ -171,3 +173,15 @@ numbers_from_8 = (refl, refl, refl, refl)
 numbers_from_the_last : (crypt_unit_number (units_at (2 ^ 64 - 8) eight) 1 ≡ 0) × (crypt_unit_number (units_at (2 ^ 64 - 8) counted) 0 ≡ 2 ^ 61 - 1) × (crypt_unit_number (units_at (2 ^ 64 - 8) counted) 1 ≡ 0) × (crypt_unit_number (units_at (2 ^ 64 - 1) []) 1 ≡ 0)
 unfolding sector_size iv_large_sectors size_of size_sectors
 numbers_from_the_last = (refl, refl, refl, refl)
+
+-- ---- the hash blocks of a tree of 300 data blocks of 512 bytes: the top one, two beneath it, and 19 beneath these
+
+abbrev small_shape : ShapeRecord
+small_shape = shape_with 512 512 300 0
+
+abbrev tree_end : ℕ → ℕ → Option PathEnd
+tree_end index above = Some (record { index = index; above = above })
+
+tree_blocks : (levels small_shape ≡ 3) × (tree_block small_shape 3 0 ≡ tree_end 0 0) × (tree_block small_shape 3 2 ≡ tree_end 256 1) × (tree_block small_shape 3 3 ≡ tree_end 0 2) × (tree_block small_shape 3 21 ≡ tree_end 288 2) × (tree_block small_shape 3 22 ≡ None)
+unfolding level_blocks levels tree_block
+tree_blocks = (refl, refl, refl, refl, refl, refl)

@@ -6,7 +6,10 @@ pub mod ChangeLemmas
 pub mod CheckedLemmas
 pub mod CostLemmas
 pub mod CoveredLemmas
+pub mod DecodedLemmas
 pub mod EachLineLemmas
+pub mod ErasureLemmas
+pub mod FewerLossesLemmas
 pub mod FoundLemmas
 pub mod GatheredLemmas
 pub mod LeafLemmas

@@ -1,5 +1,5 @@
 -- Blocks that agree with what parity restores in their place.
-use Rattle.std.specs.Prelude.{◌≡◌, ℕ, ◌<◌, Bool, IsTrue, List, Some, Ok}
+use Rattle.std.specs.Prelude.{◌≡◌, ◌⊎◌, ℕ, ◌<◌, ◌≤◌, Bool, IsTrue, List, length, Some, Ok}
 use Rattle.tree_shape.specs.Digests.{digest}
 use Rattle.dm_table.specs.declared.parity.Parity.{Parity}
 use Rattle.dm_table.specs.declared.table.Line.{Line}
@@ -12,13 +12,19 @@ use Rattle.stack_meaning.specs.LeavesBeneath.{target_leaves}
 use Rattle.stack_meaning.specs.Meaning.{none_said, said_by_name}
 use Rattle.stack_meaning.specs.Outcomes.{Images}
 use Rattle.stack_meaning.specs.Spares.{BlockSources, covered_block, restored_block, verified_blocks}
+use Rattle.stack_meaning.specs.Erasures.{decoded_block}
 use Rattle.stack_meaning.specs.targets.Verity.{sources_over}
 
--- if covered block j and what parity restores in its place are both readable, and have one digest, they are the same
+-- what may be read as covered block j: the block as it is stored; or what parity restores in its place, by exclusive-or, or by the code
+-- if blocks at any of these positions are lost
+abbrev pub IsCandidate : Verity → Parity → BlockSources → ℕ → List ℕ → Type 0
+IsCandidate v p from j block =
+    (covered_block v from j ≡ Ok block)
+    ⊎ ((restored_block v p from j ≡ Ok block) ⊎ ((lost : List ℕ) × (length lost ≤ p.roots) × (decoded_block v p from j lost ≡ Ok block)))
+
+-- two such blocks with one digest are the same
 abbrev pub BlockAgrees : Verity → Parity → BlockSources → ℕ → Type 0
-BlockAgrees v p from j =
-    (own restored : List ℕ) → covered_block v from j ≡ Ok own → restored_block v p from j ≡ Ok restored
-    → digest v.salt restored ≡ digest v.salt own → restored ≡ own
+BlockAgrees v p from j = (one other : List ℕ) → IsCandidate v p from j one → IsCandidate v p from j other → digest v.salt one ≡ digest v.salt other → one ≡ other
 
 -- so do the data blocks and hash blocks of a line, if it has parity
 abbrev pub LineAgrees : Verity → BlockSources → Type 0

@@ -1,35 +1,17 @@
 -- Data blocks of a `verity` line, verified from the root hash down; of each block on the way its spare may be taken.
-use Rattle.std.specs.Prelude.{◌≡◌, ◌⊎◌, ℕ, zero, suc, ◌+◌, ◌-◌, ◌*◌, ◌/◌, ◌<◌, Bool, ◌&&◌, List, Ok, if◌then◌else◌}
+use Rattle.std.specs.Prelude.{◌≡◌, ◌⊎◌, ℕ, zero, suc, ◌+◌, ◌*◌, ◌<◌, Bool, ◌&&◌, List, Ok, if◌then◌else◌}
 use Rattle.std.specs.Str.{bytes_eq}
-use Rattle.tree_shape.specs.Digests.{digest, digest_in}
-use Rattle.tree_shape.specs.Shape.{levels, position, slot, ancestor}
+use Rattle.tree_shape.specs.Digests.{digest}
+use Rattle.tree_shape.specs.Shape.{levels, ancestor}
 use Rattle.dm_table.specs.declared.verity.Verity.{Verity}
 use Rattle.stack_rules.specs.Trees.{tree_of, block_sectors, zero_block}
 use Rattle.stack_meaning.specs.Sectors.{SomeOf}
 use Rattle.stack_meaning.specs.declared.fault.Fault.{Fault}
 use Rattle.stack_meaning.specs.Outcomes.{Outcome, mismatch, then_outcome}
-use Rattle.stack_meaning.specs.Spares.{BlockSources, covered_spare, healed_outcome}
+use Rattle.stack_meaning.specs.Erasures.{covered_spare}
+use Rattle.stack_meaning.specs.Spares.{BlockSources, healed_outcome}
 pub use Rattle.stack_meaning.specs.Checked.{checked, checked_span}
-
--- the number of sectors of a hash block
-abbrev pub hash_sectors : Verity → ℕ
-hash_sectors v = v.hash_block / 512
-
--- the first sector, on the hash device, of hash block b of level l
-abbrev pub hash_place : Verity → ℕ → ℕ → ℕ
-hash_place v l b = hash_sectors v * position (tree_of v) l b
-
--- the first sector of the hash block of level l on the path to data block i
-abbrev pub hash_start : Verity → ℕ → ℕ → ℕ
-hash_start v l i = hash_place v l (ancestor (tree_of v) (l + 1) i)
-
--- the number of hash block b of level l among the covered blocks
-abbrev pub covered_hash : Verity → ℕ → ℕ → ℕ
-covered_hash v l b = v.blocks + (position (tree_of v) l b - v.start)
-
--- the digest that this hash block stores for the next block on the path
-abbrev pub next_digest : Verity → ℕ → ℕ → List ℕ → List ℕ
-next_digest v l i block = digest_in block (slot (tree_of v) (ancestor (tree_of v) l i))
+pub use Rattle.stack_meaning.specs.Paths.{covered_hash, hash_place, hash_sectors, hash_start, next_digest}
 
 -- the line has `ignore_zero_blocks`, and the digest is that of a block of zeros
 abbrev pub is_ignored : Verity → List ℕ → Bool

@@ -2,9 +2,11 @@ pub mod Outcomes
 pub mod Sectors
 pub mod Units
 pub mod Found
-pub mod Blocks
+pub mod Paths
 pub mod Checked
 pub mod Spares
+pub mod Erasures
+pub mod Blocks
 pub mod Leaves
 pub mod Memory
 pub mod Said

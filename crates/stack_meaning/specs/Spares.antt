@@ -1,6 +1,6 @@
 -- What parity restores in place of a block of a `verity` line that isn't readable or fails verification: the sum, by
 -- exclusive-or, of the other blocks of its round and of the round's parity.
-use Rattle.std.specs.Prelude.{◌≡◌, ◌≢◌, ℕ, zero, suc, ◌+◌, ◌-◌, ◌*◌, ◌/◌, ◌%◌, ◌<◌, ◌≤◌, ◌==◌, nat_lt, List, map, length, slice_index, bit_xor, Option, Some, None, Ok, Err, if◌then◌else◌}
+use Rattle.std.specs.Prelude.{◌≡◌, ◌≢◌, ℕ, zero, suc, ◌+◌, ◌-◌, ◌*◌, ◌/◌, ◌%◌, ◌<◌, ◌≤◌, ◌==◌, nat_lt, List, map, length, slice_index, bit_xor, Ok, Err, if◌then◌else◌}
 use Rattle.std.specs.List.{range_with_len}
 use Rattle.reed_solomon.specs.Field.{total}
 use Rattle.reed_solomon.specs.Sums.{part_sum}
@@ -10,8 +10,8 @@ use Rattle.dm_table.specs.declared.parity.Parity.{Parity}
 use Rattle.dm_table.specs.declared.verity.Verity.{Verity}
 use Rattle.stack_rules.specs.Trees.{block_sectors, round_count, tree_of, zero_block}
 use Rattle.stack_meaning.specs.declared.fault.Fault.{Fault}
-use Rattle.stack_meaning.specs.Outcomes.{Outcome, mismatch, span, then_outcome}
-use Rattle.stack_meaning.specs.Checked.{checked, checked_span}
+use Rattle.stack_meaning.specs.Outcomes.{Outcome, span, then_outcome}
+use Rattle.stack_meaning.specs.Checked.{checked}
 
 -- the sectors of the three devices of a line
 pub record BlockSources : Type 0 where
@@ -83,11 +83,6 @@ restored_block v p below j =
 abbrev pub spare_block : Verity → Parity → BlockSources → ℕ → List ℕ → Outcome
 spare_block v p below j expected = then_outcome (restored_block v p below j) (checked v.salt expected)
 
--- the spare of covered block j; without parity there is none
-abbrev pub covered_spare : Verity → BlockSources → Option Parity → ℕ → List ℕ → Outcome
-covered_spare v below None j expected = Err mismatch
-covered_spare v below (Some p) j expected = spare_block v p below j expected
-
 -- ---- laws
 
 -- byte c of the former block at position i of round n; 0 after the last covered block
@@ -118,9 +113,3 @@ pub record KeepsBlock (own spare : Outcome) : Type 0 where
 
 abbrev pub HealingKeepsBlocks : Type 0
 HealingKeepsBlocks = (own spare : Outcome) → KeepsBlock own spare
-
--- a block that is healed has the expected digest
-abbrev pub HealedBlocksAreVerified : Type 0
-HealedBlocksAreVerified =
-    (v : Verity) → (p : Parity) → (below : BlockSources) → (at : ℕ → Outcome) → (first n j : ℕ) → (expected bytes : List ℕ)
-    → healed_outcome (checked_span at first n v.salt expected) (spare_block v p below j expected) ≡ Ok bytes → digest v.salt bytes ≡ expected

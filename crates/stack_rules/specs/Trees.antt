@@ -44,9 +44,14 @@ covered_sectors verity parity = (verity.start + (parity.blocks - verity.blocks))
 abbrev pub parity_sectors : Verity → Parity → ℕ
 parity_sectors verity parity = (parity.start + round_count parity * parity.roots) * block_sectors verity
 
--- the most sectors read to restore a block: the block itself once more, the other blocks of its round, and their parity
+-- the most blocks read for the spare of a block: the other blocks of its round and their parity, 254 blocks; and to restore it by
+-- erasures, the paths to the other blocks, these and the parity once more
+abbrev pub spare_blocks : Verity → ℕ
+spare_blocks verity = 254 * (path_blocks verity + 2)
+
+-- the most sectors read to restore a block: the block itself once more, and its spare
 abbrev pub mend_sectors : Verity → ℕ
-mend_sectors verity = 255 * block_sectors verity
+mend_sectors verity = (spare_blocks verity + 1) * block_sectors verity
 
 -- the arguments of a `verity` line
 abbrev pub verity_of : Target → Option Verity

@@ -1,10 +1,10 @@
 //! The parity of a `verity` line: what it covers, and where it is.
-ghost use Rattle.std.specs.Prelude.{◌≡◌, ◌≤◌};
+ghost use Rattle.std.specs.Prelude.{◌≡◌, ◌≤◌, ◌<◌, ◌^◌};
 ghost use Rattle.dm_table.specs.Grammar.{IsParityOfGrammar, IsVerityOfGrammar};
 ghost use Rattle.stack_rules.specs.Trees.{covered_sectors, mend_sectors, parity_sectors, round_count};
 ghost use Rattle.stack_rules.specs.targets.Verity.{is_unprotected_by};
 
-use crate::tree::{block_sectors, tree_size};
+use crate::tree::{block_sectors, path_blocks, tree_size};
 use dm_table::{Parity, Verity};
 
 /// Returns the number of rounds. A round has one block at each position of a message.
@@ -35,11 +35,15 @@ pub fn parity_sectors(verity: &Verity, parity: &Parity) -> u128
     end * u128::from(block_sectors(verity))
 }
 
-/// Returns the largest number of sectors read to restore a block: those of 255 blocks.
-pub fn mend_sectors(verity: &Verity) -> u32
-    ensures { result ≡ mend_sectors verity.now }
+/// Returns the largest number of sectors read to restore a block: the block itself once more; the other blocks of its round and their
+/// parity, twice; and the paths to the other blocks.
+pub fn mend_sectors(verity: &Verity) -> u64
+    requires { IsVerityOfGrammar verity.now }
+    ensures value { result ≡ mend_sectors verity.now }
+    ensures few { result < 2 ^ 32 }
 {
-    255 * (verity.data_block / 512)
+    let spare = 254 * (path_blocks(verity) + 2);
+    (spare + 1) * u64::from(block_sectors(verity))
 }
 
 /// Returns whether the line has parity that doesn't cover all data and hash blocks, or parity and blocks of two sizes.

@@ -27,6 +27,9 @@ total-split f n (suc m) =
     let regroup = xor_assoc (total f n) (total (λ k. f (n + k)) m) (f (n + m)) in
     cc (whole, front, back, regroup)
 
+pub total-alike : (f g : ℕ → ℕ) (n : ℕ) → ((k : ℕ) → k < n → f k ≡ g k) → total f n ≡ total g n
+total-alike f g n same = total-same f g n same
+
 -- the parts by other summands
 pub total-parts : (f g h : ℕ → ℕ) (n m : ℕ) → ((i : ℕ) → i < n → f i ≡ g i) → ((k : ℕ) → k < m → f (n + k) ≡ h k) → total f (n + m) ≡ bit_xor (total g n) (total h m)
 total-parts f g h n m front back =

@@ -10,7 +10,7 @@ use Rattle.stack_meaning.specs.Outcomes.{mismatch}
 use Rattle.stack_rules.specs.Trees.{zero_block}
 use Rattle.stack_engine.specs.Healing.{HasNoParity, IsHealed, unhealed}
 use Rattle.stack_engine.specs.LeafCalls.{LeafCall, AllLeafCallsSucceeded, NoneAfterFailure, EndAtFailure}
-use Rattle.stack_engine.specs.SectorCalls.{bytes_before, ReadOf, ReadCalls, WriteTo, WriteCalls, leaf_read, leaf_unread, none_read, line_read, line_unread, units_read, units_unread, part_read, part_unread, zeros_read, fails_read, chain_found, data_read, data_unread, data_full, blocks_read, block_checked, block_differs, block_unread, block_full, hash_kept, hash_full, hash_read, way_had, way_healed, way_lost, way_down, way_stops, way_full, one_ignored, one_read, next_ignored, next_checked, next_healed, next_differs, next_alone, next_unread, together_read, together_lost, together_unread, blocks_end, blocks_next, blocks_full, leaf_written, leaf_unwritten, none_written, line_written, line_unwritten, units_written, each_written, part_written, part_lost, none_stepped, step_written, step_unwritten, zeros_written, fails_written, one_healed, one_kept, one_fetched, spare_none, spare_full, spare_checked, spare_differs, spare_unread, sums_past, sums_added, sums_unread, parity_added, parity_unread}
+use Rattle.stack_engine.specs.SectorCalls.{bytes_before, ReadOf, ReadCalls, WriteTo, WriteCalls, leaf_read, leaf_unread, none_read, line_read, line_unread, units_read, units_unread, part_read, part_unread, zeros_read, fails_read, chain_found, data_read, data_unread, data_full, blocks_read, block_checked, block_differs, block_unread, block_full, hash_kept, hash_full, hash_read, way_had, way_healed, way_lost, way_down, way_stops, way_full, one_ignored, one_read, next_ignored, next_checked, next_healed, next_differs, next_alone, next_unread, together_read, together_lost, together_unread, blocks_end, blocks_next, blocks_full, leaf_written, leaf_unwritten, none_written, line_written, line_unwritten, units_written, each_written, part_written, part_lost, none_stepped, step_written, step_unwritten, zeros_written, fails_written, one_healed, one_kept, one_fetched, spare_only, spare_erased, spare_full, only_none, only_full, only_checked, only_differs, only_unread, sums_past, sums_added, sums_unread, parity_added, parity_unread, erased_none, erased_full, erased_judged, judged_many, judged_past, judged_refused, judged_short, judged_next, judged_stops, judged_full, judged_all, restored_whole, restored_differs, restored_unread, known_none, known_beneath, digest_found, digest_next, digest_stops, columns_past, columns_added, columns_unread, columns_ended, columns_stop}
 use Rattle.stack_engine.proofs.lemmas.NoParityLemmas.{HasNone, served-none}
 
 all-append : (calls later : List LeafCall) → AllLeafCallsSucceeded calls → AllLeafCallsSucceeded later → AllLeafCallsSucceeded (calls ++ later)
@@ -67,7 +67,7 @@ ends-vain fault (io.Device i) calls h = h
 ends-vain fault io.NoMemory calls h = h
 
 -- without parity no fault is healed
-none-heals : {X : Type 0} (parity : Option Parity) (fault : IoFault) → parity ≡ None → IsHealed parity fault → X
+pub none-heals : {X : Type 0} (parity : Option Parity) (fault : IoFault) → parity ≡ None → IsHealed parity fault → X
 none-heals parity (io.Stack fault) none heals = let both : false ≡ true = sym (ap is_some none) ∙ heals in absurd cc
 none-heals parity (io.Device i) none heals = let both : false ≡ true = sym (ap is_some none) ∙ heals in absurd cc
 none-heals parity io.NoMemory none heals = let both : false ≡ true = heals in absurd cc
@@ -119,16 +119,43 @@ reads-end none (together_unread used row settled a) plain = reads-end none a tt
 reads-end none (blocks_end p alone ahead) plain = tt
 reads-end none (blocks_next a) plain = reads-end none a plain
 reads-end none (blocks_full p left alone ahead) plain = tt
-reads-end none (spare_none p expected lacks) plain = tt
+reads-end none (spare_only settled a) plain = reads-end none a plain
+reads-end none (spare_erased {p = p} {fault = fault} heals a b) plain = none-heals p.verity.parity fault plain heals
 reads-end none (spare_full p expected) plain = tt
-reads-end none (spare_checked has a good) plain = clash plain has
-reads-end none (spare_differs has a other) plain = clash plain has
-reads-end none (spare_unread has a) plain = clash plain has
+reads-end none (only_none p expected lacks) plain = tt
+reads-end none (only_full p expected) plain = tt
+reads-end none (only_checked has a good) plain = clash plain has
+reads-end none (only_differs has a other) plain = clash plain has
+reads-end none (only_unread has a) plain = clash plain has
 reads-end none (sums_past inside past a) plain = absurd plain
 reads-end none (sums_added inside at a b) plain = absurd plain
 reads-end none (sums_unread sums inside at a) plain = absurd plain
 reads-end none (parity_added sums on a) plain = absurd plain
 reads-end none (parity_unread sums on a) plain = absurd plain
+reads-end none (erased_none p expected lacks) plain = tt
+reads-end none (erased_full p expected) plain = tt
+reads-end none (erased_judged has a) plain = clash plain has
+reads-end none (judged_many p i expected more) plain = absurd plain
+reads-end none (judged_past few inside past a) plain = absurd plain
+reads-end none (judged_refused few inside at a b) plain = absurd plain
+reads-end none (judged_short few inside at a) plain = absurd plain
+reads-end none (judged_next judged few inside at a b by d) plain = absurd plain
+reads-end none (judged_stops few inside at a b by) plain = absurd plain
+reads-end none (judged_full p q i l expected) plain = absurd plain
+reads-end none (judged_all few a) plain = absurd plain
+reads-end none (restored_whole a whole) plain = absurd plain
+reads-end none (restored_differs a other) plain = absurd plain
+reads-end none (restored_unread expected a) plain = absurd plain
+reads-end none (known_none past) plain = absurd plain
+reads-end none (known_beneath at a) plain = absurd plain
+reads-end none (digest_found p expected) plain = absurd plain
+reads-end none (digest_next low a b) plain = absurd plain
+reads-end none (digest_stops low a) plain = absurd plain
+reads-end none (columns_past inside past a) plain = absurd plain
+reads-end none (columns_added inside kept at a b) plain = absurd plain
+reads-end none (columns_unread sums inside kept at a) plain = absurd plain
+reads-end none (columns_ended places sums on a) plain = absurd plain
+reads-end none (columns_stop places sums on a) plain = absurd plain
 
 pub reads-ended : {c : Configuration} {what : ReadOf} {calls : List LeafCall} {from to : ℕ} {answer : Result (List ℕ) IoFault} → HasNoParity c → HasNone what → ReadCalls c what calls from to answer → EndAtFailure answer calls
 reads-ended {calls = calls} {answer = answer} none plain h = as-ended answer calls (reads-end none h plain)

@@ -31,7 +31,8 @@ use Rattle.stack_config.proofs.lemmas.VerityLineLemmas.{IsVerityLine, verity-lin
 use Rattle.stack_engine.specs.DamagedData.{IsTreeOnHash, line_sources}
 use Rattle.stack_engine.specs.Laws.{FormattedDataIsRead, LiesInVerity, formatted_sector, named_sector}
 use Rattle.stack_meaning.specs.Meaning.{Said, line_said, said_by_name, sector}
-use Rattle.stack_meaning.specs.Spares.{BlockSources, covered_spare, healed_outcome}
+use Rattle.stack_meaning.specs.Erasures.{covered_spare}
+use Rattle.stack_meaning.specs.Spares.{BlockSources, healed_outcome}
 use Rattle.stack_meaning.proofs.lemmas.BlockSizeLemmas.{IsWholeSectors, whole-sectors}
 use Rattle.stack_meaning.proofs.lemmas.EachLineLemmas.{line_at-is, line_at-end}
 use Rattle.stack_meaning.proofs.lemmas.LineLemmas.{line-start}

@@ -12,7 +12,8 @@ use Rattle.stack_meaning.specs.Leaves.{steady_images, AreRead}
 use Rattle.stack_meaning.specs.Outcomes.{Images, Outcome, mismatch, span}
 use Rattle.stack_meaning.specs.Places.{Place, Expected}
 use Rattle.stack_meaning.specs.Reading.{Gets, IsCertain}
-use Rattle.stack_meaning.specs.Spares.{covered_block, covered_spare, healed_outcome, verified_blocks}
+use Rattle.stack_meaning.specs.Erasures.{covered_spare}
+use Rattle.stack_meaning.specs.Spares.{covered_block, healed_outcome, verified_blocks}
 use Rattle.stack_meaning.proofs.lemmas.AgreementLemmas.{agreed-restored}
 use Rattle.stack_meaning.proofs.lemmas.LeafListLemmas.{AreRead-none, AreRead-then, AreRead-more, failed_earlier, failed_later, images-kept}
 use Rattle.stack_meaning.proofs.lemmas.RunLemmas.{certain-for}

@@ -7,7 +7,7 @@ use Rattle.stack_lines.specs.declared.source.Source.{Source}
 use Rattle.stack_lines.specs.declared.source.Source.TheVariants.{Below, Units, UnitPart, Zeros, Fails, Block, Blocks}
 use Rattle.stack_lines.specs.Sources.{ComeFrom, IsServed}
 use Rattle.stack_engine.specs.Healing.{HasNoParity}
-use Rattle.stack_engine.specs.SectorCalls.{block_of, blocks_of, data_of, hash_of, sectors_of, spare_of, sums_of, way_of, ReadOf}
+use Rattle.stack_engine.specs.SectorCalls.{block_of, blocks_of, columns_of, data_of, digest_of, erased_of, hash_of, judged_of, known_of, only_of, restored_of, sectors_of, spare_of, sums_of, way_of, ReadOf}
 
 -- the line of a part has none
 abbrev pub SourceHasNone : Source → Type 0
@@ -27,7 +27,14 @@ HasNone (way_of p l expected) = p.verity.parity ≡ None
 HasNone (data_of p l expected last next) = p.verity.parity ≡ None
 HasNone (blocks_of p left alone ahead) = p.verity.parity ≡ None
 HasNone (spare_of p expected) = p.verity.parity ≡ None
+HasNone (only_of p expected) = p.verity.parity ≡ None
 HasNone (sums_of p q i sums) = ⊥
+HasNone (erased_of p expected) = p.verity.parity ≡ None
+HasNone (judged_of p q i l expected) = ⊥
+HasNone (known_of p k) = ⊥
+HasNone (digest_of p end n expected) = ⊥
+HasNone (restored_of p q l expected) = ⊥
+HasNone (columns_of p q places i sums) = ⊥
 
 come-none : (c : Configuration) (d l : ℕ) (line : Line) (w n : ℕ) (source : Source) → HasNoParity c → IsLine c d l line → ComeFrom c (d, l) line.target w n source → SourceHasNone source
 come-none c d l line w n (Below lower first) none is come = tt

@@ -5,7 +5,7 @@ use Rattle.stack_rules.specs.Records.{Configuration}
 use Rattle.stack_meaning.specs.declared.fault.IoFault.{IoFault}
 use Rattle.stack_engine.specs.LeafCalls.{LeafCall}
 use Rattle.stack_engine.specs.Restored.{one_more, restored_after}
-use Rattle.stack_engine.specs.SectorCalls.{ReadOf, ReadCalls, leaf_read, leaf_unread, none_read, line_read, line_unread, units_read, units_unread, part_read, part_unread, zeros_read, fails_read, chain_found, data_read, data_unread, data_full, blocks_read, block_checked, block_differs, block_unread, block_full, hash_kept, hash_full, hash_read, way_had, way_healed, way_lost, way_down, way_stops, way_full, one_ignored, one_read, one_healed, one_kept, one_fetched, next_ignored, next_checked, next_healed, next_differs, next_alone, next_unread, together_read, together_lost, together_unread, blocks_end, blocks_next, blocks_full, spare_none, spare_full, spare_checked, spare_differs, spare_unread, sums_past, sums_added, sums_unread, parity_added, parity_unread}
+use Rattle.stack_engine.specs.SectorCalls.{ReadOf, ReadCalls, leaf_read, leaf_unread, none_read, line_read, line_unread, units_read, units_unread, part_read, part_unread, zeros_read, fails_read, chain_found, data_read, data_unread, data_full, blocks_read, block_checked, block_differs, block_unread, block_full, hash_kept, hash_full, hash_read, way_had, way_healed, way_lost, way_down, way_stops, way_full, one_ignored, one_read, one_healed, one_kept, one_fetched, next_ignored, next_checked, next_healed, next_differs, next_alone, next_unread, together_read, together_lost, together_unread, blocks_end, blocks_next, blocks_full, spare_only, spare_erased, spare_full, only_none, only_full, only_checked, only_differs, only_unread, sums_past, sums_added, sums_unread, parity_added, parity_unread, erased_none, erased_full, erased_judged, judged_many, judged_past, judged_refused, judged_short, judged_next, judged_stops, judged_full, judged_all, restored_whole, restored_differs, restored_unread, known_none, known_beneath, digest_found, digest_next, digest_stops, columns_past, columns_added, columns_unread, columns_ended, columns_stop}
 
 -- it doesn't fall
 one-grows : (n : ℕ) → n ≤ one_more n
@@ -67,13 +67,40 @@ reads-grow (together_unread used row settled a) = reads-grow a
 reads-grow (blocks_end p alone ahead) = omega arith
 reads-grow (blocks_next a) = reads-grow a
 reads-grow (blocks_full p left alone ahead) = omega arith
-reads-grow (spare_none p expected none) = omega arith
+reads-grow (spare_only settled a) = reads-grow a
+reads-grow (spare_erased heals a b) = omega (arith, reads-grow a, reads-grow b)
 reads-grow (spare_full p expected) = omega arith
-reads-grow (spare_checked has a good) = reads-grow a
-reads-grow (spare_differs has a other) = reads-grow a
-reads-grow (spare_unread has a) = reads-grow a
-reads-grow (sums_past inside none a) = reads-grow a
+reads-grow (only_none p expected lacks) = omega arith
+reads-grow (only_full p expected) = omega arith
+reads-grow (only_checked has a good) = reads-grow a
+reads-grow (only_differs has a other) = reads-grow a
+reads-grow (only_unread has a) = reads-grow a
+reads-grow (sums_past inside past a) = reads-grow a
 reads-grow (sums_added inside at a b) = omega (arith, reads-grow a, reads-grow b)
 reads-grow (sums_unread sums inside at a) = reads-grow a
 reads-grow (parity_added sums on a) = reads-grow a
 reads-grow (parity_unread sums on a) = reads-grow a
+reads-grow (erased_none p expected lacks) = omega arith
+reads-grow (erased_full p expected) = omega arith
+reads-grow (erased_judged has a) = reads-grow a
+reads-grow (judged_many p i expected more) = omega arith
+reads-grow (judged_past few inside past a) = reads-grow a
+reads-grow (judged_refused few inside at a b) = omega (arith, reads-grow a, reads-grow b)
+reads-grow (judged_short few inside at a) = reads-grow a
+reads-grow (judged_next judged few inside at a b by d) = omega (arith, reads-grow a, reads-grow b, reads-grow d)
+reads-grow (judged_stops few inside at a b by) = omega (arith, reads-grow a, reads-grow b)
+reads-grow (judged_full p q i l expected) = omega arith
+reads-grow (judged_all few a) = reads-grow a
+reads-grow (restored_whole a whole) = reads-grow a
+reads-grow (restored_differs a other) = reads-grow a
+reads-grow (restored_unread expected a) = reads-grow a
+reads-grow (known_none past) = omega arith
+reads-grow (known_beneath at a) = reads-grow a
+reads-grow (digest_found p expected) = omega arith
+reads-grow (digest_next low a b) = omega (arith, reads-grow a, reads-grow b)
+reads-grow (digest_stops low a) = reads-grow a
+reads-grow (columns_past inside past a) = reads-grow a
+reads-grow (columns_added inside kept at a b) = omega (arith, reads-grow a, reads-grow b)
+reads-grow (columns_unread sums inside kept at a) = reads-grow a
+reads-grow (columns_ended places sums on a) = reads-grow a
+reads-grow (columns_stop places sums on a) = reads-grow a

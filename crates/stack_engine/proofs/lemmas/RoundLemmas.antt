@@ -70,6 +70,19 @@ mend-inside o p q i one two inside =
     let same : p ≡ q = cc in
     subst (λ (x : Parity). i < 255 - x.roots) same inside
 
+-- so many bytes of parity for a codeword, too
+pub same-roots : (o : Option Parity) (p q : Parity) → o ≡ Some p → o ≡ Some q → p.roots ≡ q.roots
+same-roots o p q one two =
+    let both : Some p ≡ Some q = sym one ∙ two in
+    let same : p ≡ q = cc in
+    ap (λ (x : Parity). x.roots) same
+
+pub many-lost : (o : Option Parity) (p q : Parity) (n : ℕ) → o ≡ Some p → o ≡ Some q → p.roots < n → q.roots < n
+many-lost o p q n one two more = omega (arith, more, same-roots o p q one two)
+
+pub few-lost : (o : Option Parity) (p q : Parity) (n : ℕ) → o ≡ Some p → o ≡ Some q → n ≤ p.roots → n ≤ q.roots
+few-lost o p q n one two most = omega (arith, most, same-roots o p q one two)
+
 -- what the sums need of the parity of a loaded line
 pub record IsRound (q : Parity) (index : ℕ) : Type 0 where
   pub some : 2 ≤ q.roots
@@ -86,7 +99,7 @@ is-round c v tree loaded is index there q has =
     }
 
 -- what is read of an extent, or zeros
-abbrev extent_means : Configuration → Verity → Option Extent → Images → Outcome
+abbrev pub extent_means : Configuration → Verity → Option Extent → Images → Outcome
 extent_means c v None images = Ok (zero_block v)
 extent_means c v (Some e) images = span (λ s. ((place_of c e.lower).said s).means images) e.first e.sectors
 
@@ -105,7 +118,7 @@ or-right : (x y : Bool) → IsTrue y → IsTrue (x || y)
 or-right x y is = ap (λ (b : Bool). x || b) is ∙ or-true x
 
 module _ (c : Configuration) (v : Verity) (tree : Tree) (loaded : IsLoaded c) (is : IsTreeOf c v tree) (index : ℕ) where
-  abbrev b : DataBlock
+  abbrev pub b : DataBlock
   b = block_in c v index
 
   data-same : b.on_data ≡ place_of c tree.data
@@ -144,7 +157,7 @@ module _ (c : Configuration) (v : Verity) (tree : Tree) (loaded : IsLoaded c) (i
       }
 
   -- a covered block is read where it is stored
-  covered-means : (images : Images) (k : ℕ)
+  pub covered-means : (images : Images) (k : ℕ)
       → covered_block v (sources_of b images) k ≡ span (λ s. ((place_of c (covered_at (place_in v tree index) k).lower).said s).means images) (covered_start v k) (block_sectors v)
   covered-means images k = go (nat_lt k v.blocks)
     where
@@ -153,7 +166,7 @@ module _ (c : Configuration) (v : Verity) (tree : Tree) (loaded : IsLoaded c) (i
       go true = ap (λ (p : Place). span (λ s. (p.said s).means images) (covered_start v k) (block_sectors v)) data-same
       go false = ap (λ (p : Place). span (λ s. (p.said s).means images) (covered_start v k) (block_sectors v)) hash-same
 
-  covered-of : (k : ℕ) → IsOfLine c tree b (covered_at (place_in v tree index) k).lower
+  pub covered-of : (k : ℕ) → IsOfLine c tree b (covered_at (place_in v tree index) k).lower
   covered-of k = go (nat_lt k v.blocks)
     where
       go : (t : Bool) → IsOfLine c tree b (cond t tree.data tree.hash)
@@ -161,7 +174,7 @@ module _ (c : Configuration) (v : Verity) (tree : Tree) (loaded : IsLoaded c) (i
       go false = hash-of
 
   module _ (q : Parity) (i : ℕ) where
-    other-means : (images : Images) → round_block v q (sources_of b images) (index % round_count q) (index / round_count q) i ≡ extent_means c v (other_at (place_in v tree index) q i) images
+    pub other-means : (images : Images) → round_block v q (sources_of b images) (index % round_count q) (index / round_count q) i ≡ extent_means c v (other_at (place_in v tree index) q i) images
     other-means images = go (nat_eq i (index / round_count q)) (nat_lt (place_number q (index % round_count q) i) q.blocks)
       where
         k : ℕ

@@ -13,7 +13,7 @@ use Rattle.dm_table.specs.declared.parity.Parity.{Parity}
 use Rattle.dm_table.specs.declared.verity.Verity.{Verity}
 use Rattle.stack_rules.specs.TargetRules.{greatest}
 use Rattle.stack_rules.specs.targets.Verity.{mend_cost}
-use Rattle.stack_rules.specs.Trees.{tree_of, block_sectors, zero_block}
+use Rattle.stack_rules.specs.Trees.{tree_of, block_sectors, spare_blocks, zero_block}
 use Rattle.stack_meaning.specs.declared.fault.Fault.{Fault}
 use Rattle.stack_meaning.specs.declared.fault.IoFault.{IoFault}
 use Rattle.stack_meaning.specs.declared.fault.IoFault.TheVariants as io
@@ -67,7 +67,7 @@ pub ignored-digest : (v : Verity) (expected : List ℕ) → is_ignored v expecte
 ignored-digest v expected e = (bytes_eq-Decides (digest v.salt (zero_block v)) expected).0 (and_parts v.ignore_zero_blocks _ e).1
 
 -- the leaves beneath one of the devices are some of those beneath all
-hash-in : (b : DataBlock) (i : ℕ) → IsTrue (b.on_hash.leaves i) → IsTrue (block_leaves b i)
+pub hash-in : (b : DataBlock) (i : ℕ) → IsTrue (b.on_hash.leaves i) → IsTrue (block_leaves b i)
 hash-in b i is = ap (λ (x : Bool). b.on_data.leaves i || (x || b.on_parity.leaves i)) is ∙ or-true (b.on_data.leaves i)
 
 data-in : (b : DataBlock) (i : ℕ) → IsTrue (b.on_data.leaves i) → IsTrue (block_leaves b i)
@@ -148,7 +148,7 @@ module _ {A : Type 0} (bytes_of : A → List ℕ) (b : DataBlock) (expected : Li
 spare-below : (v : Verity) (o : Option Parity) (costs : List ℕ) → spare_cost_by v o costs ≤ mend_cost v o costs
 spare-below v None costs = omega arith
 spare-below v (Some q) costs =
-    let few : 254 * block_sectors v ≤ 255 * block_sectors v = mul-le-mul_right (block_sectors v) (lit≤ tt) in
+    let few : spare_blocks v * block_sectors v ≤ (spare_blocks v + 1) * block_sectors v = mul-le-mul_right (block_sectors v) (omega arith) in
     mul-le-mul_right (greatest costs) few
 
 alone-below : (v : Verity) (o : Option Parity) (own : ℕ) (rest : List ℕ) → IsTrue (is_some o) → block_sectors v * own + spare_cost_by v o (own ∷ rest) ≤ mend_cost v o (own ∷ rest)
@@ -156,8 +156,8 @@ alone-below v None own rest some = let clash : false ≡ true = some in absurd c
 alone-below v (Some q) own rest some =
     let g : ℕ = greatest (own ∷ rest) in
     let one : block_sectors v * own ≤ block_sectors v * g = mul-le-mul_left (block_sectors v) (le-max_left own (greatest rest)) in
-    let split : (254 * block_sectors v + block_sectors v) * g ≡ 254 * block_sectors v * g + block_sectors v * g = add-mul (254 * block_sectors v) (block_sectors v) g in
-    let all : 254 * block_sectors v + block_sectors v ≡ 255 * block_sectors v = omega arith in
+    let split : (spare_blocks v * block_sectors v + block_sectors v) * g ≡ spare_blocks v * block_sectors v * g + block_sectors v * g = add-mul (spare_blocks v * block_sectors v) (block_sectors v) g in
+    let all : spare_blocks v * block_sectors v + block_sectors v ≡ (spare_blocks v + 1) * block_sectors v = grind arith in
     omega (arith, one, split, ap (λ (k : ℕ). k * g) all)
 
 -- the cost of some hash blocks on the way, of a data block, and of as many spares

@@ -1,5 +1,5 @@
 -- Images over which blocks agree with what parity restores.
-use Rattle.std.proofs.Common.{◌≡◌, ℕ, ◌<◌, Bool, IsTrue, true, false, ◌||◌, ◌==◌, List, [], ◌∷◌, get_or, Option, Some, None, Ok, refl, sym, ap, ◌∙◌, subst, arith}
+use Rattle.std.proofs.Common.{◌≡◌, ℕ, ◌<◌, Bool, IsTrue, true, false, ◌||◌, ◌==◌, List, [], ◌∷◌, get_or, Option, Some, None, Ok, inl, inr, refl, sym, ap, ◌∙◌, subst, arith}
 use Rattle.std.specs.List.{AllByRecursion, list_any}
 use Rattle.std.proofs.lemmas.Bool.Decides.{nat_tests}
 use Rattle.dm_table.specs.declared.parity.Parity.{Parity}
@@ -11,16 +11,18 @@ use Rattle.stack_rules.specs.Descend.{by_name, known}
 use Rattle.stack_rules.specs.Names.{named, names}
 use Rattle.stack_rules.specs.Records.{Configuration}
 use Rattle.tree_shape.specs.Digests.{digest}
-use Rattle.stack_meaning.specs.Agreement.{AgreesOn, BlockAgrees, LineAgrees}
+use Rattle.stack_meaning.specs.Agreement.{AgreesOn, BlockAgrees, IsCandidate, LineAgrees}
 use Rattle.stack_meaning.specs.Beneath.{below}
 use Rattle.stack_meaning.specs.LeavesBeneath.{leaves_beneath, name_stands_on, stands_on, target_leaves}
 use Rattle.stack_meaning.specs.Meaning.{Said, none_said, said_at, said_by_name}
 use Rattle.stack_meaning.specs.Checked.{checked, checked_span}
 use Rattle.stack_meaning.specs.Outcomes.{Images, Outcome, span}
 use Rattle.stack_meaning.specs.targets.Verity.{sources_over}
-use Rattle.stack_meaning.specs.Spares.{BlockSources, covered_block, covered_spare, restored_block}
+use Rattle.stack_meaning.specs.Erasures.{covered_spare, round_losses, round_spare}
+use Rattle.stack_meaning.specs.Spares.{BlockSources, covered_block}
 use Rattle.stack_meaning.proofs.lemmas.BaseLemmas.{below-each}
 use Rattle.stack_meaning.proofs.lemmas.CheckedLemmas.{checked-digest, checked-is, then-parts}
+use Rattle.stack_meaning.proofs.lemmas.ErasureLemmas.{spare-parts}
 use Rattle.stack_meaning.proofs.lemmas.LeavesBeneathLemmas.{sector-alike}
 use Rattle.stack_meaning.proofs.lemmas.MeaningLaws.{IsAlike}
 use Rattle.stack_meaning.proofs.lemmas.targets.Verity.{sources-alike}
@@ -37,6 +39,13 @@ checked-block from first n salt expected own is =
     let parts = then-parts (span from first n) (checked salt expected) own is in
     (parts.1 ∙ ap Ok (checked-is salt expected parts.0 own parts.2), checked-digest salt expected parts.0 own parts.2)
 
+-- a spare is a candidate
+pub spare-candidate : (v : Verity) (p : Parity) (from : BlockSources) (j : ℕ) (expected restored : List ℕ) → round_spare v p from j expected ≡ Ok restored → IsCandidate v p from j restored
+spare-candidate v p from j expected restored is = elim (spare-parts v p from j expected restored is).0 [
+  | inl sum ↦ inr (inl sum)
+  | inr code ↦ inr (inr (round_losses v p from j, code.0, code.1))
+]
+
 -- if both are there, they are the same
 pub agreed-restored : (v : Verity) (from : BlockSources) (at : ℕ → Outcome) (first n j : ℕ) (expected own restored : List ℕ) → ((p : Parity) → v.parity ≡ Some p → BlockAgrees v p from j × (span at first n ≡ covered_block v from j))
     → checked_span at first n v.salt expected ≡ Ok own → covered_spare v from v.parity j expected ≡ Ok restored → restored ≡ own
@@ -46,8 +55,8 @@ agreed-restored v from at first n j expected own restored agrees is spare = go v
     go None none h = cc
     go (Some p) has h =
         let stored = checked-block at first n v.salt expected own is in
-        let parts = then-parts (restored_block v p from j) (checked v.salt expected) restored h in
-        (agrees p has).0 own restored (sym (agrees p has).1 ∙ stored.0) (parts.1 ∙ ap Ok (checked-is v.salt expected parts.0 restored parts.2)) (checked-digest v.salt expected parts.0 restored parts.2 ∙ sym stored.1)
+        let parts = spare-parts v p from j expected restored h in
+        (agrees p has).0 restored own (spare-candidate v p from j expected restored h) (inl (sym (agrees p has).1 ∙ stored.0)) (parts.1 ∙ sym stored.1)
 
 -- ---- the images of other leaves don't matter
 

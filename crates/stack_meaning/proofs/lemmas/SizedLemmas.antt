@@ -13,14 +13,16 @@ use Rattle.xts_sector.proofs.lemmas.UnitLemmas as xts
 use Rattle.stack_meaning.specs.declared.units.CryptUnits.{CryptUnits}
 use Rattle.stack_meaning.specs.Units.{per_unit, crypt_unit_number, decrypted_unit, unit_part, unit_first}
 use Rattle.stack_meaning.specs.Beneath.{said_or}
-use Rattle.stack_meaning.specs.Spares.{BlockSources, covered_spare}
+use Rattle.stack_meaning.specs.Erasures.{covered_spare}
+use Rattle.stack_meaning.specs.Spares.{BlockSources}
 use Rattle.stack_meaning.specs.Blocks.{hash_block_at, next_digest, checked, checked_span, is_ignored, data_block_at, block_below}
 use Rattle.stack_meaning.specs.Said.{Said, none_said, leaf_said}
 use Rattle.stack_meaning.specs.targets.Crypt.{crypt_said}
 use Rattle.stack_meaning.specs.Outcomes.{Images, Outcome, changed_outcome, joint_outcome, span, zero_sector, AreWhole}
 use Rattle.stack_meaning.proofs.lemmas.CheckedLemmas.{checked-is, then-parts}
 use Rattle.stack_meaning.proofs.lemmas.MeaningLaws.{IsSized}
-use Rattle.stack_meaning.proofs.lemmas.SpareLemmas.{healed-from, spare-length}
+use Rattle.stack_meaning.proofs.lemmas.ErasureLemmas.{spare-length}
+use Rattle.stack_meaning.proofs.lemmas.SpareLemmas.{healed-from}
 use Rattle.stack_meaning.proofs.lemmas.SpanLemmas.{span-add}
 use Rattle.stack_meaning.proofs.lemmas.UnitSizeLemmas.{per_unit-some}
 

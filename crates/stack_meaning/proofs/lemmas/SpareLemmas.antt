@@ -1,5 +1,5 @@
--- The only lost block of a round is restored by its parity, and what is healed has the expected digest.
-use Rattle.std.proofs.Common.{◌≡◌, ◌≢◌, ◌⊎◌, ℕ, zero, suc, ◌-◌, ◌*◌, ◌/◌, ◌%◌, ◌<◌, ◌≤◌, true, false, cond, nat_eq, nat_lt, List, length, Option, Some, None, Ok, Err, inl, inr, refl, sym, ap, ◌∙◌, arith, bit_xor}
+-- The only lost block of a round is restored by its parity.
+use Rattle.std.proofs.Common.{◌≡◌, ◌≢◌, ◌⊎◌, ℕ, zero, suc, ◌-◌, ◌*◌, ◌/◌, ◌%◌, ◌<◌, ◌≤◌, true, false, cond, nat_eq, nat_lt, List, length, Ok, Err, inl, inr, refl, sym, ap, ◌∙◌, arith, bit_xor}
 use Rattle.std.specs.Prelude.{slice_index}
 use Rattle.std.proofs.lemmas.Bool.{cases_lt, eq-eqb, le-ltb, lt-ltb, ne_eqb}
 use Rattle.std.proofs.lemmas.Bool.Decides.{eqb_tells}
@@ -16,10 +16,10 @@ use Rattle.dm_table.specs.declared.parity.Parity.{Parity}
 use Rattle.dm_table.specs.declared.verity.Verity.{Verity}
 use Rattle.stack_rules.specs.Trees.{round_count, zero_block}
 use Rattle.stack_meaning.specs.declared.fault.Fault.{Fault}
-use Rattle.stack_meaning.specs.Outcomes.{Outcome, span, then_outcome}
-use Rattle.stack_meaning.specs.Checked.{checked, checked_span}
-use Rattle.stack_meaning.specs.Spares.{BlockSources, HealedBlocksAreVerified, HealingKeepsBlocks, IsFormerRound, IsWholeBeside, OneLostBlockIsRestored, added_block, covered_block, covered_spare, former_byte, healed_outcome, place_number, restored_block, round_block, round_parity, spare_block, summed_blocks, with_parity}
-use Rattle.stack_meaning.proofs.lemmas.CheckedLemmas.{checked-digest, checked-is, checked-same, then-parts}
+use Rattle.stack_meaning.specs.Outcomes.{Outcome, then_outcome}
+use Rattle.stack_meaning.specs.Checked.{checked}
+use Rattle.stack_meaning.specs.Spares.{BlockSources, HealingKeepsBlocks, IsFormerRound, IsWholeBeside, OneLostBlockIsRestored, added_block, covered_block, former_byte, healed_outcome, place_number, restored_block, round_block, round_parity, summed_blocks, with_parity}
+use Rattle.stack_meaning.proofs.lemmas.CheckedLemmas.{checked-same, then-parts}
 
 -- ---- sums of blocks
 
@@ -30,12 +30,12 @@ added-at : (sums block : List ℕ) (c : ℕ) → c < length sums → slice_index
 added-at sums block c lt = get_or-map-range_with_len (λ c. bit_xor (slice_index sums c) (slice_index block c)) 0 (length sums) c c 0 lt (omega arith)
 
 -- the sum of m readable blocks
-record IsSummed (first : List ℕ) (at : ℕ → Outcome) (block : ℕ → List ℕ) (m : ℕ) (sums : List ℕ) : Type 0 where
-  is : summed_blocks first at m ≡ Ok sums
-  size : length sums ≡ length first
-  bytes : (c : ℕ) → c < length first → slice_index sums c ≡ total (λ i. slice_index (block i) c) m
+pub record IsSummed (first : List ℕ) (at : ℕ → Outcome) (block : ℕ → List ℕ) (m : ℕ) (sums : List ℕ) : Type 0 where
+  pub is : summed_blocks first at m ≡ Ok sums
+  pub size : length sums ≡ length first
+  pub bytes : (c : ℕ) → c < length first → slice_index sums c ≡ total (λ i. slice_index (block i) c) m
 
-summed : (first : List ℕ) (at : ℕ → Outcome) (block : ℕ → List ℕ) (m : ℕ) → ((c : ℕ) → c < length first → slice_index first c ≡ 0) → ((i : ℕ) → i < m → at i ≡ Ok (block i))
+pub summed : (first : List ℕ) (at : ℕ → Outcome) (block : ℕ → List ℕ) (m : ℕ) → ((c : ℕ) → c < length first → slice_index first c ≡ 0) → ((i : ℕ) → i < m → at i ≡ Ok (block i))
     → (sums : List ℕ) × IsSummed first at block m sums
 unfolding summed_blocks total
 summed first at block zero zeros each = (first, record { is = refl; size = refl; bytes = zeros })
@@ -54,7 +54,7 @@ summed first at block (suc m) zeros each =
       },
     )
 
-length-summed : (first : List ℕ) (at : ℕ → Outcome) (m : ℕ) (sums : List ℕ) → summed_blocks first at m ≡ Ok sums → length sums ≡ length first
+pub length-summed : (first : List ℕ) (at : ℕ → Outcome) (m : ℕ) (sums : List ℕ) → summed_blocks first at m ≡ Ok sums → length sums ≡ length first
 unfolding summed_blocks
 length-summed first at zero sums e = let same : first ≡ sums = cc in ap length (sym same)
 length-summed first at (suc m) sums e =
@@ -68,7 +68,7 @@ length-summed first at (suc m) sums e =
 rounds-room : (p : Parity) → p.roots ≤ 24 → p.blocks ≤ round_count p * (255 - p.roots)
 rounds-room p few = (div_ceil_times p.blocks (255 - p.roots) (omega (arith, few))).0
 
-rounds-some : (p : Parity) (j : ℕ) → p.roots ≤ 24 → j < p.blocks → 0 < round_count p
+pub rounds-some : (p : Parity) (j : ℕ) → p.roots ≤ 24 → j < p.blocks → 0 < round_count p
 rounds-some p j few inside = elim (cases_lt 0 (round_count p)) [
   | inl some ↦ some
   | inr none ↦
@@ -77,7 +77,7 @@ rounds-some p j few inside = elim (cases_lt 0 (round_count p)) [
       absurd (omega (arith, nothing, rounds-room p few, inside))
 ]
 
-place-below : (p : Parity) (j : ℕ) → p.roots ≤ 24 → j < p.blocks → j / round_count p < 255 - p.roots
+pub place-below : (p : Parity) (j : ℕ) → p.roots ≤ 24 → j < p.blocks → j / round_count p < 255 - p.roots
 place-below p j few inside =
     let swap : round_count p * (255 - p.roots) ≡ (255 - p.roots) * round_count p = grind arith in
     div_below j (round_count p) (255 - p.roots) (rounds-some p j few inside) (omega (arith, rounds-room p few, swap, inside))
@@ -88,10 +88,10 @@ place-below p j few inside =
 abbrev summand : Verity → Parity → (ℕ → List ℕ) → ℕ → ℕ → ℕ → List ℕ
 summand v p former n lost i = cond (nat_eq i lost) (zero_block v) (cond (nat_lt (place_number p n i) p.blocks) (former (place_number p n i)) (zero_block v))
 
-zero-byte : (v : Verity) (c : ℕ) → c < v.data_block → slice_index (zero_block v) c ≡ 0
+pub zero-byte : (v : Verity) (c : ℕ) → c < v.data_block → slice_index (zero_block v) c ≡ 0
 zero-byte v c lt = get_or-replicate {A = ℕ} v.data_block c 0 0 lt
 
-zero-length : (v : Verity) → length (zero_block v) ≡ v.data_block
+pub zero-length : (v : Verity) → length (zero_block v) ≡ v.data_block
 zero-length v = length-replicate {A = ℕ} v.data_block 0
 
 summand-lost : (v : Verity) (p : Parity) (former : ℕ → List ℕ) (n lost i : ℕ) → nat_eq i lost ≡ true → summand v p former n lost i ≡ zero_block v
@@ -155,7 +155,7 @@ round-read v p below former parity j i some whole =
 length-with_parity : (roots : ℕ) (sums parity : List ℕ) → length (with_parity roots sums parity) ≡ length sums
 length-with_parity roots sums parity = length-map-range_with_len (λ c. bit_xor (slice_index sums c) (part_sum roots parity c)) 0 (length sums)
 
-restored-length : (v : Verity) (p : Parity) (below : BlockSources) (j : ℕ) (bytes : List ℕ) → restored_block v p below j ≡ Ok bytes → length bytes ≡ v.data_block
+pub restored-length : (v : Verity) (p : Parity) (below : BlockSources) (j : ℕ) (bytes : List ℕ) → restored_block v p below j ≡ Ok bytes → length bytes ≡ v.data_block
 restored-length v p below j bytes e =
     let n : ℕ = j % round_count p in
     let at : ℕ → Outcome = round_block v p below n (j / round_count p) in
@@ -164,14 +164,7 @@ restored-length v p below j bytes e =
     let same : with_parity p.roots read.0 stored.0 ≡ bytes = cc in
     ap length (sym same) ∙ length-with_parity p.roots read.0 stored.0 ∙ length-summed (zero_block v) at (255 - p.roots) read.0 read.1 ∙ zero-length v
 
--- a spare has the size of a block
-pub spare-length : (v : Verity) (below : BlockSources) (parity : Option Parity) (i : ℕ) (expected bytes : List ℕ) → covered_spare v below parity i expected ≡ Ok bytes → length bytes ≡ v.data_block
-spare-length v below None i expected bytes e = cc
-spare-length v below (Some p) i expected bytes e =
-    let read = then-parts (restored_block v p below i) (checked v.salt expected) bytes e in
-    ap length (sym (checked-is v.salt expected read.0 bytes read.2)) ∙ restored-length v p below i read.0 read.1
-
-former-own : (p : Parity) (former : ℕ → List ℕ) (j c : ℕ) → j < p.blocks → former_byte p former (j % round_count p) c (j / round_count p) ≡ slice_index (former j) c
+pub former-own : (p : Parity) (former : ℕ → List ℕ) (j c : ℕ) → j < p.blocks → former_byte p former (j % round_count p) c (j / round_count p) ≡ slice_index (former j) c
 former-own p former j c inside =
     let at : place_number p (j % round_count p) (j / round_count p) ≡ j = div-add-mod' j (round_count p) in
     ap (λ k. cond (nat_lt k p.blocks) (slice_index (former k) c) 0) at ∙ ap (λ b. cond b (slice_index (former j) c) 0) (lt-ltb j p.blocks inside)
@@ -228,13 +221,3 @@ healing-keeps own spare = record {
   block = λ bytes e. ap (λ (x : Outcome). healed_outcome x spare) e;
   fault = λ fault e. healed-fault own spare fault e;
 }
-
-pub healed-verified : HealedBlocksAreVerified
-healed-verified v p below at first n j expected bytes e = elim (healed-from (checked_span at first n v.salt expected) (spare_block v p below j expected) bytes e) [
-  | inl own ↦
-      let read = then-parts (span at first n) (checked v.salt expected) bytes own in
-      checked-digest v.salt expected read.0 bytes read.2
-  | inr spare ↦
-      let read = then-parts (restored_block v p below j) (checked v.salt expected) bytes spare in
-      checked-digest v.salt expected read.0 bytes read.2
-]

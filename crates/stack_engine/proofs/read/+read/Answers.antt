@@ -5,14 +5,14 @@ use Rattle.std.proofs.lemmas.Slice.Eq.{bytes_eq-Decides}
 use Rattle.std.proofs.lemmas.Bool.{cases_lt, eqb-true}
 use Rattle.std.proofs.lemmas.Slice.{take-put_mid}
 use Rattle.std.proofs.lemmas.List.{with_items_is}
-use Rattle.std.specs.Prelude.{option_map, is_ok, nat_lt, IfSome}
-use Rattle.block_device.specs.Call.{DeviceDoes, Read}
+use Rattle.std.specs.Prelude.{option_map, is_ok, nat_lt, IfSome, IfErr, IfOk, IsTrue, is_some}
+use Rattle.block_device.specs.Call.{DeviceDoes, Read, Call}
 use Rattle.stack_engine.specs.LeafCalls.{IsLeafCall}
-use Rattle.stack_engine.specs.SectorCalls.{Gives, zeros_read, fails_read}
+use Rattle.stack_engine.specs.SectorCalls.{Gives, zeros_read, fails_read, block_at, columns_of, covered_at, digest_of, erased_of, known_of, other_in, other_number, restored_of}
 use Rattle.stack_engine.proofs.ReadCallLemmas.{reads-none}
 use Rattle.stack_engine.specs.SectorCalls.{LeadsTo, ReadsBy, place_at, block_full, block_of, data_of, expected_hash, hash_full, hash_kept, hash_of, last_bytes, one_asked, one_block, one_ignored, place_in, spare_of, way_had, way_of, way_full, whole_data}
-use Rattle.stack_engine.specs.Healing.{alone_after, healed_result}
-use Rattle.stack_engine.specs.ReadSteps.{IsKeptData, block_answer, expected_in}
+use Rattle.stack_engine.specs.Healing.{alone_after, healed_result, unhealed}
+use Rattle.stack_engine.specs.ReadSteps.{IsKeptData, block_answer, expected_in, ReadsOn}
 use Rattle.stack_engine.proofs.WayCallLemmas.{block-ungiven, one-asked, one-kept, chain-given, checked-given, data-given, data-short, data-ungiven, differs-given, hash-given, last-push, leads-begin, one-given, one-healed, place-same, place-turn, reads-expected, way-ended, way-had, way-healed, way-led, way-short, way-ungiven, way-unled}
 use Rattle.stack_engine.proofs.BlockCallLemmas.{BlocksUpTo, blocks-begin, blocks-given, blocks-short, blocks-unled, blocks-way, gives-at, path-last, row-asked, row-begins, row-after, row-some, row-stays, row-ungiven, together-at, way-plain}
 use Rattle.stack_engine.proofs.SectorCallLemmas.{leaf-given, gives-begin, run-given, run-ungiven, all-given, units-given, units-ungiven, part-given, part-ungiven}
@@ -42,7 +42,7 @@ use Rattle.stack_engine.proofs.RunBytesLemmas.{room_sectors, next-run, run-can}
 use Rattle.stack_engine.proofs.StackLemmas.{stack-later}
 use Rattle.stack_meaning.proofs.lemmas.LoadedLemmas.{size-small}
 use Rattle.stack_lines.proofs.lemmas.SourceLemmas.{served-depth, below_of, leaf_of, empty_read, zeros_of, fails_of}
-use Rattle.stack_lines.proofs.lemmas.VerityLineLemmas.{data-whole, hash-whole, hash-depth, data-depth}
+use Rattle.stack_lines.proofs.lemmas.VerityLineLemmas.{data-whole, hash-whole, hash-depth, data-depth, line-facts}
 use Rattle.stack_engine.proofs.PathBlockLemmas.{bytes, kept-data-had, data_key_place, checked_as, place_key, hash_read, hash_failed, data_had, data_failed, way-answered, way-read, way-settled, way-verified}
 use Rattle.stack_meaning.specs.Memory.{largest_allocation}
 use Rattle.stack_engine.proofs.CachedLemmas.{cached-hit, cached-small, keeps-noted, noted_key, keeps-kept, keeps-found, keeps-last, last-small}
@@ -61,7 +61,7 @@ use Rattle.verified_cache.specs.Cache.{CachedBlock}
 use Rattle.stack_lines.specs.AtOnce.{CanGo}
 use Rattle.stack_engine.specs.Held.{IsHeld}
 use Rattle.stack_engine.proofs.PathLemmas.{held-small, path-read, path-hit, path-put, path-down, path-failed, path-stopped, path-ended, path-whole, walk-begins, way-bytes, way-fault, way-key, no_block}
-use Rattle.stack_engine.proofs.LostBlockLemmas.{data-verified}
+use Rattle.stack_engine.proofs.LostBlockLemmas.{data-verified, block-covered}
 use Rattle.stack_engine.proofs.BlocksAtLemmas.{blocks-at}
 use Rattle.stack_engine.proofs.BlocksLemmas.{blocks-meet}
 use Rattle.stack_engine.proofs.NextBlockLemmas.{sub-same, digest-count, blocks-long, way-whole, block-begin, far, row-next, row-fails, row-kept, next-kept, together-from, lone-from, heals-after, checked-none, turn-at, way-fails, way-costs, row-at, row-got, row-costs, put-at, row-covers, checked-as, checked-all}
@@ -70,17 +70,17 @@ use Rattle.stack_engine.proofs.SettledLemmas.{settled-given, settled-got, settle
 use Rattle.stack_engine.specs.declared.path.Chains.TheVariants.{Kept}
 use Rattle.stack_engine.specs.Keeping.{with_chains, AreHandedOut, ReadsAs, ReadsSourceAs, one_found}
 use Rattle.stack_engine.proofs.KeepingLemmas.{device_err, device_ok, finds-as, finds-begin, finds-kept, finds-none, finds-up, gets-none, one-out, same_reads}
-use Rattle.stack_lines.specs.Touches.{leaves_of}
+use Rattle.stack_lines.specs.Touches.{leaves_of, NamesOneOf}
 use Rattle.stack_meaning.proofs.lemmas.LeafListLemmas.{AreRead-none}
 use Rattle.stack_engine.proofs.SpentLemmas.{IsCutBehind, block-spent, had-spent}
 use Rattle.stack_lines.proofs.lemmas.TouchLemmas.{data-within}
 use Rattle.stack_lines.proofs.lemmas.AskLemmas.{asks-less, asks-none, asks-then, asks-as, asks-up}
 use Rattle.stack_engine.proofs.TouchedLemmas.{extent-touched, same-within, hash-touched, data-touched}
 use Rattle.stack_engine.specs.Backings.{did, backing_of, served}
-use Rattle.stack_engine.specs.Restored.{serving}
+use Rattle.stack_engine.specs.Restored.{serving, Served}
 use Rattle.stack_engine.specs.ReadSteps.{run_beneath, IsReadStep}
 use Rattle.stack_engine.proofs.StepLemmas.{met, step-met, step-none, below-step, units-step, part-step, zeros-step, fails-step, leaf-step, device-begin, device-step-ok, device-step-err}
-use Rattle.std.proofs.Math.Nat.{mul-le-mul_right}
+use Rattle.std.proofs.Math.Nat.{mul-le-mul_right, mul-div_cancel, mul-mod_left}
 use Rattle.dm_table.specs.declared.parity.Parity.{Parity}
 use Rattle.dm_table.specs.declared.verity.Verity.{Verity}
 use Rattle.stack_rules.specs.Records.{Configuration}
@@ -90,13 +90,29 @@ use Rattle.stack_meaning.specs.Spares.{with_parity}
 use Rattle.stack_lines.specs.declared.tree.Tree.{Tree}
 use Rattle.stack_lines.specs.Walks.{IsTreeOf}
 use Rattle.stack_engine.specs.SectorCalls.{DataPlace, other_at, other_by, sums_of}
-use Rattle.stack_engine.specs.Spares.{HealsBy, IsStoredAt, other_wanted, stored_wanted}
+use Rattle.stack_engine.specs.Spares.{HealsBy, IsStoredAt, other_wanted, stored_wanted, AreFoundUpTo, AreLossesOf, AreUnfound, DigestBy, IsJudged, IsNext, IsUnjudged, JudgesTo, NamesLeaf, columns_wanted, erased_wanted, failed_of, judge_cost, kept_wanted, restored_wanted, spare_wanted, stored_digest_wanted}
 use Rattle.stack_engine.specs.declared.rows.JudgedBlock.{JudgedBlock}
 use Rattle.stack_engine.specs.declared.spare.Stored.{Stored}
-use Rattle.stack_engine.proofs.HealLemmas.{asks-healed, asks-lost, lost-fails, lost-heals, asks-unhealed, asks-vain, heals-failed, heals-had, heals-short}
-use Rattle.stack_engine.proofs.MendCallLemmas.{leads-then, other-added, other-lost, other-past, spare-given, spare-lost, spare-other, spare-past, stored-given, stored-lost}
-use Rattle.stack_engine.proofs.lemmas.MendLemmas.{IsSummed, spare-differs, spare-ends, spare-none, stored-fails, summed-fails, summed-more, summed-none}
-use Rattle.stack_engine.proofs.lemmas.RoundLemmas.{is-round, mend-inside, other-given, other-none, other-of, other-read, other-unread, parity-of, stored-count, stored-read, stored-unread}
+use Rattle.stack_engine.proofs.HealLemmas.{asks-healed, asks-lost, lost-fails, lost-heals, asks-unhealed, asks-vain, heals-failed, heals-had, heals-short, asks-both, asks-one, heals-some, names-next, read-fault, read-named, unhealed-named, unread-fault, unread-named, vain-named}
+use Rattle.stack_engine.proofs.MendCallLemmas.{leads-then, other-added, other-lost, other-past, only-given, only-lost, only-other, only-past, stored-given, stored-lost, spare-alone, spare-by_erasures}
+use Rattle.stack_engine.proofs.lemmas.MendLemmas.{IsSummed, only-differs, only-ends, only-none, stored-fails, summed-fails, summed-more, summed-none}
+use Rattle.stack_engine.proofs.lemmas.RoundLemmas.{is-round, mend-inside, other-given, other-none, other-of, other-read, other-unread, parity-of, stored-count, stored-read, stored-unread, few-lost, many-lost, same-roots}
+use Rattle.block_device.specs.Device.{Device}
+use Rattle.stack_engine.specs.Erasures.{LossRecord, added_columns, added_parity, end_of, judge_by, no_columns, record_of, vain_fault, column}
+use Rattle.stack_engine.specs.declared.losses.Judged.{Judged}
+use Rattle.stack_engine.specs.declared.spare.LostBlock.{LostBlock}
+use Rattle.stack_engine.specs.declared.backing.Backing.{Backing}
+use Rattle.stack_meaning.specs.declared.fault.Fault.{Fault}
+use Rattle.stack_meaning.specs.Erasures.{is_among}
+use Rattle.stack_engine.proofs.PathEndLemmas.{end-verified}
+use Rattle.stack_engine.proofs.JudgeLemmas.{IsDigestBeneath, beneath-begins, beneath-down, beneath-ends, beneath-fails, judge-fits, judge-most, judged-read, judged-refused, judged-short, judged-unread, known-beneath, known-none, unjudged-read, unjudged-unread}
+use Rattle.stack_engine.proofs.JudgeCallLemmas.{column-added, column-lost, column-past, columns-given, columns-lost, digest-down, digest-fails, digest-given, erased-given, erased-past, erased-unjudged, erased-vain, judges-by, judges-refused, judges-short, known-given, known-past, restored-lost, restored-other, restored-given}
+use Rattle.stack_engine.proofs.StoredLemmas.{extent-is, stored-asks, stored-calls, stored-deep, stored-had, stored-lacks}
+use Rattle.stack_engine.proofs.FoundLemmas.{all-judged, found-next, found-none, found-past, losses-found, unfound-full, unfound-next}
+use Rattle.stack_engine.proofs.MendedLemmas.{erased-all, erased-many, erased-none, erased-unfound, spare-mended, spare-only, spare-settled}
+use Rattle.stack_engine.proofs.DecodeLemmas.{AreSummed, columns-read, columns-unread, kept-apart, kept-lost, kept-none, kept-read, kept-unread, restored-differs, restored-fails, sums-begin, sums-end, sums-more, sums-stop, restored-whole}
+use Rattle.stack_engine.specs.declared.losses.Judged.TheVariants.{Lost}
+use Rattle.stack_engine.proofs.ColumnSumLemmas.{column-first, column-length}
 use Rattle.stack_engine.proofs.read.+read.Goals as goal
 
 pub read_device-overflow_add-first : goal.read_device-overflow_add-first
@@ -2035,8 +2051,8 @@ add_parity-returns-in-Ok-clause-given g t c q has =
     subst (λ (x : List ℕ). ReadsBy (DeviceDoes g.D.BlockDev.state g.D.BlockDev.does) config (sums_of place q (255 - q.roots) c.args.sums.now) (served c.args.backing.now) (served c.read_beneath.new.backing) (Ok x)) (sym is)
     (stored-given c.args.sums.now at stored count (c.in-Ok.ensures.given.some (stored-some config v tree q c.as_mut_slice-all.result.now at loaded c.requires.block.lies round.some stored.sectors room c.in-Some.ensures.few)))
 
-pub mend-loop-place-init : goal.mend-loop-place-init
-mend-loop-place-init g t c =
+pub mend_only-loop-place-init : goal.mend_only-loop-place-init
+mend_only-loop-place-init g t c =
     let config = c.args.config.now in
     let v = c.args.verity.now in
     let tree = c.args.tree.now in
@@ -2053,20 +2069,20 @@ mend-loop-place-init g t c =
       given = λ q has. subst (λ (x : List ℕ). LeadsTo (DeviceDoes g.D.BlockDev.state g.D.BlockDev.does) config (sums_of (place_in v tree index) q 0 (zero_block v)) (sums_of (place_in v tree index) q 0 x) (served c.args.backing.now) (served c.args.backing.now)) (sym zeros) (leads-begin (sums_of (place_in v tree index) q 0 (zero_block v)));
     }
 
-pub mend-returns-in-None-clause-reads : goal.mend-returns-in-None-clause-reads
-mend-returns-in-None-clause-reads g t c = spare-none (block_in c.args.config.now c.args.verity.now c.args.lost.now.index) c.args.lost.now.digest (map g.D.BlockDev.state c.args.backing.now.devices.items) c.in-None.is
+pub mend_only-returns-in-None-clause-reads : goal.mend_only-returns-in-None-clause-reads
+mend_only-returns-in-None-clause-reads g t c = only-none (block_in c.args.config.now c.args.verity.now c.args.lost.now.index) c.args.lost.now.digest (map g.D.BlockDev.state c.args.backing.now.devices.items) c.in-None.is
 
-pub mend-returns-in-None-clause-given : goal.mend-returns-in-None-clause-given
-mend-returns-in-None-clause-given g t c = spare-past (place_in c.args.verity.now c.args.tree.now c.args.lost.now.index) c.args.lost.now.digest c.in-None.is
+pub mend_only-returns-in-None-clause-given : goal.mend_only-returns-in-None-clause-given
+mend_only-returns-in-None-clause-given g t c = only-past (place_in c.args.verity.now c.args.tree.now c.args.lost.now.index) c.args.lost.now.digest c.in-None.is
 
-pub mend-add_other-requires : goal.mend-add_other-requires
-mend-add_other-requires g t c κs within =
+pub mend_only-add_other-requires : goal.mend_only-add_other-requires
+mend_only-add_other-requires g t c κs within =
     let inv = c.loop-place.invariant in
     let summed = inv.summed c.in-Some.parity c.in-Some.is in
     (omega arith, (within, (stack-later c.args.config.now summed.moved.moved.fixed c.requires.stack inv.cached, (c.requires.block, omega (arith, c.loop-place.auto.out, c.fill_zeros.auto.out, c.requires.size)))))
 
-pub mend-returns-in-Err-clause-reads : goal.mend-returns-in-Err-clause-reads
-mend-returns-in-Err-clause-reads g t c =
+pub mend_only-returns-in-Err-clause-reads : goal.mend_only-returns-in-Err-clause-reads
+mend_only-returns-in-Err-clause-reads g t c =
     let config = c.args.config.now in
     let v = c.args.verity.now in
     let index : ℕ = c.args.lost.now.index in
@@ -2075,17 +2091,17 @@ mend-returns-in-Err-clause-reads g t c =
     let round = is-round config v c.args.tree.now c.requires.stack.sound.loaded c.requires.block.lies index c.requires.block.there q has in
     summed-fails (block_in config v index) q has round.some round.few round.low (c.loop-place.invariant.summed q has) c.args.lost.now.digest c.in-Err.unread (omega (arith, c.loop-place-test.true)) (c.in-Err.ensures.reads q has)
 
-pub mend-returns-in-Err-clause-touches : goal.mend-returns-in-Err-clause-touches
-mend-returns-in-Err-clause-touches g t c = asks-then c.loop-place.invariant.touches c.in-Err.ensures.touches
+pub mend_only-returns-in-Err-clause-touches : goal.mend_only-returns-in-Err-clause-touches
+mend_only-returns-in-Err-clause-touches g t c = asks-then c.loop-place.invariant.touches c.in-Err.ensures.touches
 
-pub mend-returns-in-Err-clause-given : goal.mend-returns-in-Err-clause-given
-mend-returns-in-Err-clause-given g t c =
+pub mend_only-returns-in-Err-clause-given : goal.mend_only-returns-in-Err-clause-given
+mend_only-returns-in-Err-clause-given g t c =
     let q = c.in-Some.parity in
     let has = c.in-Some.is in
-    spare-lost has (c.loop-place.invariant.given q has) (c.in-Err.ensures.given q has (omega (arith, c.loop-place-test.true)))
+    only-lost has (c.loop-place.invariant.given q has) (c.in-Err.ensures.given q has (omega (arith, c.loop-place-test.true)))
 
-pub mend-loop-place-preserved : goal.mend-loop-place-preserved
-mend-loop-place-preserved g t c =
+pub mend_only-loop-place-preserved : goal.mend_only-loop-place-preserved
+mend_only-loop-place-preserved g t c =
     let config = c.args.config.now in
     let v = c.args.verity.now in
     let tree = c.args.tree.now in
@@ -2108,14 +2124,14 @@ mend-loop-place-preserved g t c =
           (leads-then (inv.given q has) (c.in-Ok.ensures.given q has low));
     }
 
-pub mend-add_parity-requires : goal.mend-add_parity-requires
-mend-add_parity-requires g t c κs within =
+pub mend_only-add_parity-requires : goal.mend_only-add_parity-requires
+mend_only-add_parity-requires g t c κs within =
     let inv = c.loop-place.invariant in
     let summed = inv.summed c.in-Some.parity c.in-Some.is in
     (omega arith, (within, (stack-later c.args.config.now summed.moved.moved.fixed c.requires.stack inv.cached, (c.requires.block, omega (arith, c.loop-place.auto.out, c.fill_zeros.auto.out, c.requires.size)))))
 
-pub mend-returns-in-Err-add_parity-clause-reads : goal.mend-returns-in-Err-add_parity-clause-reads
-mend-returns-in-Err-add_parity-clause-reads g t c =
+pub mend_only-returns-in-Err-add_parity-clause-reads : goal.mend_only-returns-in-Err-add_parity-clause-reads
+mend_only-returns-in-Err-add_parity-clause-reads g t c =
     let config = c.args.config.now in
     let v = c.args.verity.now in
     let index : ℕ = c.args.lost.now.index in
@@ -2124,27 +2140,27 @@ mend-returns-in-Err-add_parity-clause-reads g t c =
     let round = is-round config v c.args.tree.now c.requires.stack.sound.loaded c.requires.block.lies index c.requires.block.there q has in
     stored-fails (block_in config v index) q has round.some round.few round.low c.args.lost.now.digest (omega (arith, c.loop-place-test.false, c.loop-place.invariant.within)) (c.loop-place.invariant.summed q has) c.in-Err-add_parity.fault (c.in-Err-add_parity.ensures.reads q has)
 
-pub mend-returns-then-eq-clause-cached : goal.mend-returns-then-eq-clause-cached
-mend-returns-then-eq-clause-cached g t c =
+pub mend_only-returns-then-eq-clause-cached : goal.mend_only-returns-then-eq-clause-cached
+mend_only-returns-then-eq-clause-cached g t c =
     let step = c.in-Ok-add_parity.ensures.cached in
     record { capacity = step.capacity ∙ c.loop-place.invariant.cached.capacity; sound = step.sound }
 
-pub mend-returns-clause-cached : goal.mend-returns-clause-cached
-mend-returns-clause-cached g t c =
+pub mend_only-returns-clause-cached : goal.mend_only-returns-clause-cached
+mend_only-returns-clause-cached g t c =
     let step = c.in-Ok-add_parity.ensures.cached in
     record { capacity = step.capacity ∙ c.loop-place.invariant.cached.capacity; sound = step.sound }
 
-pub mend-returns-in-Err-add_parity-clause-given : goal.mend-returns-in-Err-add_parity-clause-given
-mend-returns-in-Err-add_parity-clause-given g t c =
+pub mend_only-returns-in-Err-add_parity-clause-given : goal.mend_only-returns-in-Err-add_parity-clause-given
+mend_only-returns-in-Err-add_parity-clause-given g t c =
     let q = c.in-Some.parity in
     let has = c.in-Some.is in
     let place = place_in c.args.verity.now c.args.tree.now c.args.lost.now.index in
     let all : 255 - q.roots ≡ c.loop-place.place = omega (arith, c.loop-place-test.false, c.loop-place.invariant.within) in
-    spare-lost has (c.loop-place.invariant.given q has)
+    only-lost has (c.loop-place.invariant.given q has)
     (subst (λ (k : ℕ). ReadsBy (DeviceDoes g.D.BlockDev.state g.D.BlockDev.does) c.args.config.now (sums_of place q k c.loop-place.out) (served c.loop-place.backing) (served c.add_parity.new.backing) (Err c.in-Err-add_parity.fault)) all (c.in-Err-add_parity.ensures.given q has))
 
-pub mend-returns-then-eq-clause-reads : goal.mend-returns-then-eq-clause-reads
-mend-returns-then-eq-clause-reads g t c =
+pub mend_only-returns-then-eq-clause-reads : goal.mend_only-returns-then-eq-clause-reads
+mend_only-returns-then-eq-clause-reads g t c =
     let config = c.args.config.now in
     let v = c.args.verity.now in
     let tree = c.args.tree.now in
@@ -2154,27 +2170,27 @@ mend-returns-then-eq-clause-reads g t c =
     let round = is-round config v tree c.requires.stack.sound.loaded c.requires.block.lies index c.requires.block.there q has in
     let whole = data-whole config tree.device.0 tree.line v c.requires.stack.sound.loaded c.requires.block.lies.is in
     let good : c.digest.result ≡ c.args.lost.now.digest = (bytes_eq-Decides c.digest.result c.args.lost.now.digest).0 (sym c.eq.ensures ∙ c.if-eq.true) in
-    spare-ends (block_in config v index) q has round.some round.few round.low c.args.lost.now.digest (omega (arith, c.loop-place-test.false, c.loop-place.invariant.within)) (c.loop-place.invariant.summed q has) (c.in-Ok-add_parity.ensures.reads q has)
+    only-ends (block_in config v index) q has round.some round.few round.low c.args.lost.now.digest (omega (arith, c.loop-place-test.false, c.loop-place.invariant.within)) (c.loop-place.invariant.summed q has) (c.in-Ok-add_parity.ensures.reads q has)
     (omega (arith, c.add_parity.auto.sums, c.loop-place.auto.out, c.fill_zeros.auto.out, c.requires.size, whole.whole)) (sym c.digest.ensures ∙ good)
 
-pub mend-returns-then-eq-clause-touches : goal.mend-returns-then-eq-clause-touches
-mend-returns-then-eq-clause-touches g t c = asks-then c.loop-place.invariant.touches c.in-Ok-add_parity.ensures.touches
+pub mend_only-returns-then-eq-clause-touches : goal.mend_only-returns-then-eq-clause-touches
+mend_only-returns-then-eq-clause-touches g t c = asks-then c.loop-place.invariant.touches c.in-Ok-add_parity.ensures.touches
 
-pub mend-returns-clause-touches : goal.mend-returns-clause-touches
-mend-returns-clause-touches g t c = asks-as (Err (Stack Mismatch)) tt (λ failures. refl) (asks-then c.loop-place.invariant.touches c.in-Ok-add_parity.ensures.touches)
+pub mend_only-returns-clause-touches : goal.mend_only-returns-clause-touches
+mend_only-returns-clause-touches g t c = asks-as (Err (Stack Mismatch)) tt (λ failures. refl) (asks-then c.loop-place.invariant.touches c.in-Ok-add_parity.ensures.touches)
 
-pub mend-returns-then-eq-clause-given : goal.mend-returns-then-eq-clause-given
-mend-returns-then-eq-clause-given g t c =
+pub mend_only-returns-then-eq-clause-given : goal.mend_only-returns-then-eq-clause-given
+mend_only-returns-then-eq-clause-given g t c =
     let q = c.in-Some.parity in
     let has = c.in-Some.is in
     let place = place_in c.args.verity.now c.args.tree.now c.args.lost.now.index in
     let all : 255 - q.roots ≡ c.loop-place.place = omega (arith, c.loop-place-test.false, c.loop-place.invariant.within) in
     let good : c.digest.result ≡ c.args.lost.now.digest = (bytes_eq-Decides c.digest.result c.args.lost.now.digest).0 (sym c.eq.ensures ∙ c.if-eq.true) in
-    spare-given has (c.loop-place.invariant.given q has) (sym c.digest.ensures ∙ good)
+    only-given has (c.loop-place.invariant.given q has) (sym c.digest.ensures ∙ good)
     (subst (λ (k : ℕ). ReadsBy (DeviceDoes g.D.BlockDev.state g.D.BlockDev.does) c.args.config.now (sums_of place q k c.loop-place.out) (served c.loop-place.backing) (served c.add_parity.new.backing) (Ok c.add_parity.new.sums)) all (c.in-Ok-add_parity.ensures.given q has))
 
-pub mend-returns-clause-reads : goal.mend-returns-clause-reads
-mend-returns-clause-reads g t c =
+pub mend_only-returns-clause-reads : goal.mend_only-returns-clause-reads
+mend_only-returns-clause-reads g t c =
     let config = c.args.config.now in
     let v = c.args.verity.now in
     let index : ℕ = c.args.lost.now.index in
@@ -2185,10 +2201,10 @@ mend-returns-clause-reads g t c =
     let made : c.digest.result ≡ c.args.lost.now.digest = c.digest.ensures ∙ same in
     let clash : false ≡ true = sym c.if-eq.false ∙ c.eq.ensures ∙ (bytes_eq-Decides c.digest.result c.args.lost.now.digest).1 made in
     cc in
-    spare-differs (block_in config v index) q has round.some round.few round.low c.args.lost.now.digest (omega (arith, c.loop-place-test.false, c.loop-place.invariant.within)) (c.loop-place.invariant.summed q has) (c.in-Ok-add_parity.ensures.reads q has) other
+    only-differs (block_in config v index) q has round.some round.few round.low c.args.lost.now.digest (omega (arith, c.loop-place-test.false, c.loop-place.invariant.within)) (c.loop-place.invariant.summed q has) (c.in-Ok-add_parity.ensures.reads q has) other
 
-pub mend-returns-clause-given : goal.mend-returns-clause-given
-mend-returns-clause-given g t c =
+pub mend_only-returns-clause-given : goal.mend_only-returns-clause-given
+mend_only-returns-clause-given g t c =
     let q = c.in-Some.parity in
     let has = c.in-Some.is in
     let v = c.args.verity.now in
@@ -2198,8 +2214,1173 @@ mend-returns-clause-given g t c =
     let made : c.digest.result ≡ c.args.lost.now.digest = c.digest.ensures ∙ same in
     let clash : false ≡ true = sym c.if-eq.false ∙ c.eq.ensures ∙ (bytes_eq-Decides c.digest.result c.args.lost.now.digest).1 made in
     cc in
-    spare-other has (c.loop-place.invariant.given q has) other
+    only-other has (c.loop-place.invariant.given q has) other
     (subst (λ (k : ℕ). ReadsBy (DeviceDoes g.D.BlockDev.state g.D.BlockDev.does) c.args.config.now (sums_of place q k c.loop-place.out) (served c.loop-place.backing) (served c.add_parity.new.backing) (Ok c.add_parity.new.sums)) all (c.in-Ok-add_parity.ensures.given q has))
+
+-- ---- the digest of a covered block
+
+pub stored_digest-read_beneath-requires : goal.stored_digest-read_beneath-requires
+stored_digest-read_beneath-requires g t c κs within =
+    let e = c.in-Some.extent in
+    let lies = c.in-Some.ensures.lies in
+    let room : length c.as_mut_slice-all.result.now ≡ 4096 = ap (λ (l : List ℕ). length l) c.as_mut_slice-all.ensures.value in
+    let size : length (take (e.sectors * 512) c.as_mut_slice-all.result.now) ≡ e.sectors * 512 = omega (arith, room, lies.few, length-take (e.sectors * 512) c.as_mut_slice-all.result.now) in
+    let deep = stored-deep c.args.config.now c.args.verity.now c.args.tree.now c.requires.stack.sound.loaded c.requires.block.lies c.args.number e (extent-is c.in-Some.ensures.is) in
+    (omega (arith, deep), (within, (c.requires.stack, (omega (arith, size), omega (arith, size, lies.inside)))))
+
+pub stored_digest-returns-in-None-clause-reads : goal.stored_digest-returns-in-None-clause-reads
+stored_digest-returns-in-None-clause-reads g t c = let clash : None ≡ Some (covered_at (place_in c.args.verity.now c.args.tree.now c.args.number) c.args.number) = c.in-None.ensures.is in absurd cc
+
+pub stored_digest-returns-in-None-clause-given : goal.stored_digest-returns-in-None-clause-given
+stored_digest-returns-in-None-clause-given g t c = let clash : None ≡ Some (covered_at (place_in c.args.verity.now c.args.tree.now c.args.number) c.args.number) = c.in-None.ensures.is in absurd cc
+
+pub stored_digest-returns-in-Err-clause-reads : goal.stored_digest-returns-in-Err-clause-reads
+stored_digest-returns-in-Err-clause-reads g t c =
+    let e = c.in-Some.extent in
+    let count = room_sectors c.as_mut_slice-all.result.now e.sectors (ap (λ (l : List ℕ). length l) c.as_mut_slice-all.ensures.value) c.in-Some.ensures.lies.few in
+    stored-lacks c.args.config.now c.args.verity.now c.args.tree.now c.requires.stack.sound.loaded c.requires.block.lies c.args.number e (extent-is c.in-Some.ensures.is) _ count c.in-Err.fault c.in-Err.ensures.reads
+
+pub stored_digest-returns-in-Ok-clause-reads : goal.stored_digest-returns-in-Ok-clause-reads
+stored_digest-returns-in-Ok-clause-reads g t c =
+    let e = c.in-Some.extent in
+    let v = c.args.verity.now in
+    let count = room_sectors c.as_mut_slice-all.result.now e.sectors (ap (λ (l : List ℕ). length l) c.as_mut_slice-all.ensures.value) c.in-Some.ensures.lies.few in
+    subst (λ (x : List ℕ). Gets (stored_digest_wanted c.args.config.now v c.args.number) (map g.D.BlockDev.state c.args.backing.now.devices.items) (map g.D.BlockDev.state c.read_beneath.new.backing.devices.items) (Ok x)) (sym c.digest.ensures)
+    (stored-had c.args.config.now v c.args.tree.now c.requires.stack.sound.loaded c.requires.block.lies c.args.number e (extent-is c.in-Some.ensures.is) _ count c.in-Ok.ensures.reads)
+
+pub stored_digest-returns-in-Err-clause-touches : goal.stored_digest-returns-in-Err-clause-touches
+stored_digest-returns-in-Err-clause-touches g t c =
+    let touched = stored-asks c.args.config.now c.args.verity.now c.args.tree.now c.requires.stack.sound.loaded c.requires.block.lies c.args.number c.in-Some.extent (extent-is c.in-Some.ensures.is) c.in-Err.ensures.touches in
+    asks-as (Err c.in-Err.fault) touched.fault (λ failures. refl) touched
+
+pub stored_digest-returns-in-Ok-clause-touches : goal.stored_digest-returns-in-Ok-clause-touches
+stored_digest-returns-in-Ok-clause-touches g t c =
+    asks-as (Ok c.digest.result) tt (λ failures. refl) (stored-asks c.args.config.now c.args.verity.now c.args.tree.now c.requires.stack.sound.loaded c.requires.block.lies c.args.number c.in-Some.extent (extent-is c.in-Some.ensures.is) c.in-Ok.ensures.touches)
+
+pub stored_digest-returns-in-Err-clause-given : goal.stored_digest-returns-in-Err-clause-given
+stored_digest-returns-in-Err-clause-given g t c =
+    let e = c.in-Some.extent in
+    let count = room_sectors c.as_mut_slice-all.result.now e.sectors (ap (λ (l : List ℕ). length l) c.as_mut_slice-all.ensures.value) c.in-Some.ensures.lies.few in
+    stored-calls c.args.config.now c.args.verity.now c.args.tree.now c.requires.stack.sound.loaded c.requires.block.lies c.args.number e (extent-is c.in-Some.ensures.is) count (c.in-Err.ensures.given.some (omega (arith, count, c.in-Some.ensures.lies.some)))
+
+pub stored_digest-returns-in-Ok-clause-given : goal.stored_digest-returns-in-Ok-clause-given
+stored_digest-returns-in-Ok-clause-given g t c =
+    let e = c.in-Some.extent in
+    let count = room_sectors c.as_mut_slice-all.result.now e.sectors (ap (λ (l : List ℕ). length l) c.as_mut_slice-all.ensures.value) c.in-Some.ensures.lies.few in (
+      c.read_beneath.new.out,
+      c.digest.ensures,
+      stored-calls c.args.config.now c.args.verity.now c.args.tree.now c.requires.stack.sound.loaded c.requires.block.lies c.args.number e (extent-is c.in-Some.ensures.is) count (c.in-Ok.ensures.given.some (omega (arith, count, c.in-Some.ensures.lies.some))),
+    )
+
+-- ---- the known digest of a covered block
+
+pub known_digest-returns-in-None-clause-reads : goal.known_digest-returns-in-None-clause-reads
+known_digest-returns-in-None-clause-reads g t c = known-none c.args.config.now c.args.verity.now c.args.number (map g.D.BlockDev.state c.args.backing.now.devices.items) (sym c.in-None.ensures)
+
+pub known_digest-returns-in-None-clause-given : goal.known_digest-returns-in-None-clause-given
+known_digest-returns-in-None-clause-given g t c j = known-past (place_in c.args.verity.now c.args.tree.now j) c.args.number (sym c.in-None.ensures)
+
+pub known_digest-digest_beneath-requires : goal.known_digest-digest_beneath-requires
+known_digest-digest_beneath-requires g t c κs within =
+    let tree = c.args.tree.now in
+    let v = c.args.verity.now in
+    let shape = (line-facts c.args.config.now tree.device.0 tree.line v c.requires.stack.sound.loaded c.requires.tree.is).2.shape in
+    let end = end-verified v shape c.args.number (end_of c.in-Some.end) (sym c.in-Some.ensures) in
+    (omega arith, (within, (c.requires.stack, (record { lies = c.requires.tree; there = end.index }, end.above))))
+
+pub known_digest-returns-in-Some-clause-reads : goal.known_digest-returns-in-Some-clause-reads
+known_digest-returns-in-Some-clause-reads g t c =
+    let tree = c.args.tree.now in
+    let v = c.args.verity.now in
+    let shape = (line-facts c.args.config.now tree.device.0 tree.line v c.requires.stack.sound.loaded c.requires.tree.is).2.shape in
+    let at = sym c.in-Some.ensures in
+    let end = end-verified v shape c.args.number (end_of c.in-Some.end) at in
+    known-beneath c.args.config.now v c.args.number (end_of c.in-Some.end) at end.above c.digest_beneath.result c.digest_beneath.ensures.reads
+
+pub known_digest-returns-in-Some-clause-given : goal.known_digest-returns-in-Some-clause-given
+known_digest-returns-in-Some-clause-given g t c j = known-given (end_of c.in-Some.end) (sym c.in-Some.ensures) (c.digest_beneath.ensures.given j)
+
+-- ---- the digest beneath some hash blocks
+
+pub digest_beneath-loop-height-init : goal.digest_beneath-loop-height-init
+digest_beneath-loop-height-init g t c =
+    let config = c.args.config.now in
+    let v = c.args.verity.now in
+    let tree = c.args.tree.now in
+    let leaves = map g.D.BlockDev.state c.args.backing.now.devices.items in
+    let all : c.levels-height.result ≡ levels (tree_of v) = c.levels-height.ensures.value ∙ ap levels c.requires.block.lies.shape_is in
+    let none : levels (tree_of v) - c.levels-height.result ≡ 0 = omega (arith, all) in
+    record {
+      within = (omega arith, omega (arith, all));
+      known = subst (λ (k : ℕ). IsDigestBeneath (block_in config v c.args.end.index) k v.root leaves leaves) (sym none) (beneath-begins (block_in config v c.args.end.index) leaves);
+      cached = record { capacity = refl; sound = c.requires.stack.cached };
+      touches = asks-none _ (leaves_of config (mapped tree.device.0)) leaves (Ok tt) tt refl;
+      given = λ j. subst (λ (k : ℕ). LeadsTo (DeviceDoes g.D.BlockDev.state g.D.BlockDev.does) config (digest_of (place_in v tree j) (end_of c.args.end) 0 v.root) (digest_of (place_in v tree j) (end_of c.args.end) k v.root) (served c.args.backing.now) (served c.args.backing.now)) (sym none) (leads-begin (digest_of (place_in v tree j) (end_of c.args.end) 0 v.root));
+    }
+
+pub digest_beneath-hash_key-key-requires : goal.digest_beneath-hash_key-key-requires
+digest_beneath-hash_key-key-requires g t c = subst (λ (k : ℕ). c.args.end.index < k) (sym (ap (λ (s : ShapeRecord). s.blocks) c.requires.block.lies.shape_is)) c.requires.block.there
+
+pub digest_beneath-hash_extent-extent-requires-clause-level : goal.digest_beneath-hash_extent-extent-requires-clause-level
+digest_beneath-hash_extent-extent-requires-clause-level g t c = omega (arith, c.loop-height-test.true, c.loop-height.invariant.within.1)
+
+pub digest_beneath-returns-clause-cached : goal.digest_beneath-returns-clause-cached
+digest_beneath-returns-clause-cached g t c = c.loop-height.invariant.cached
+
+pub digest_beneath-hash_block-requires : goal.digest_beneath-hash_block-requires
+digest_beneath-hash_block-requires g t c κs within =
+    let config = c.args.config.now in
+    let v = c.args.verity.now in
+    let tree = c.args.tree.now in
+    let extent = c.hash_extent-extent in
+    let deep = hash-depth config v tree c.requires.stack.sound.loaded c.requires.block.lies in
+    let same : depth config extent.result.lower ≡ depth config tree.hash = ap (λ (e : Extent). depth config e.lower) extent.ensures.value in
+    let key = place_key config v tree _ c.args.end.index c.hash_key-key.result extent.result c.requires.block.lies c.hash_key-key.ensures extent.ensures in
+    (omega (arith, deep, same), (within, (stack-later config c.loop-height.invariant.known.moved.moved.fixed c.requires.stack c.loop-height.invariant.cached, key)))
+
+pub digest_beneath-digest_in-digest-requires : goal.digest_beneath-digest_in-digest-requires
+digest_beneath-digest_in-digest-requires g t c =
+    let v = c.args.verity.now in
+    let tree = c.args.tree.now in
+    let is = c.requires.block.lies in
+    let size = hash-whole c.args.config.now tree.device.0 tree.line v c.requires.stack.sound.loaded is.is in
+    let same : c.hash_extent-extent.result.sectors ≡ hash_sectors v = ap (λ (e : Extent). e.sectors) c.hash_extent-extent.ensures.value in
+    let len : length c.as_slice.result.now ≡ 512 * c.hash_extent-extent.result.sectors = ap (λ (l : List ℕ). length l) c.as_slice.ensures.value ∙ c.in-Ok.ensures.reads.may.0 in
+    let block : tree.shape.hash_block ≡ v.hash_block = ap (λ (t : ShapeRecord). t.hash_block) is.shape_is in
+    omega (arith, len, same, size.whole, block, c.slot_on_path.ensures.inside)
+
+pub digest_beneath-returns-in-Err-clause-reads : goal.digest_beneath-returns-in-Err-clause-reads
+digest_beneath-returns-in-Err-clause-reads g t c =
+    let v = c.args.verity.now in
+    let all : c.levels-height.result ≡ levels (tree_of v) = c.levels-height.ensures.value ∙ ap levels c.requires.block.lies.shape_is in
+    let inv = c.loop-height.invariant in
+    beneath-fails c.args.config.now v c.args.tree.now c.args.end.index c.requires.block.lies c.loop-height.height (omega (arith, c.loop-height-test.true)) inv.within.1 c.hash_extent-extent.result c.hash_extent-extent.ensures inv.known c.args.end.above c.in-Err.stops
+    (omega (arith, c.loop-height-test.true, all, inv.within.0, inv.within.1, c.requires.above)) c.in-Err.ensures.reads
+
+pub digest_beneath-returns-in-Err-clause-cached : goal.digest_beneath-returns-in-Err-clause-cached
+digest_beneath-returns-in-Err-clause-cached g t c = record { capacity = c.in-Err.ensures.cached.capacity ∙ c.loop-height.invariant.cached.capacity; sound = c.in-Err.ensures.cached.sound }
+
+pub digest_beneath-returns-in-Err-clause-touches : goal.digest_beneath-returns-in-Err-clause-touches
+digest_beneath-returns-in-Err-clause-touches g t c =
+    let touched = hash-touched c.args.config.now c.args.verity.now c.args.tree.now c.requires.stack.sound.loaded c.requires.block.lies c.hash_extent-extent.result c.hash_extent-extent.ensures c.in-Err.ensures.touches in
+    asks-then c.loop-height.invariant.touches (asks-as (Err c.in-Err.stops) touched.fault (λ failures. refl) touched)
+
+pub digest_beneath-returns-in-Err-clause-given : goal.digest_beneath-returns-in-Err-clause-given
+digest_beneath-returns-in-Err-clause-given g t c j =
+    let v = c.args.verity.now in
+    let all : c.levels-height.result ≡ levels (tree_of v) = c.levels-height.ensures.value ∙ ap levels c.requires.block.lies.shape_is in
+    let inv = c.loop-height.invariant in
+    digest-fails v c.args.tree.now j c.loop-height.height (omega (arith, c.loop-height-test.true)) inv.within.1 (inv.given j) c.in-Err.stops (omega (arith, c.loop-height-test.true, all, inv.within.0, inv.within.1, c.requires.above))
+    (reads-expected hash_of (ap (λ (e : Extent). expected_in e v.salt c.loop-height.digest) c.hash_extent-extent.ensures.value) c.in-Err.ensures.given)
+
+pub digest_beneath-loop-height-preserved : goal.digest_beneath-loop-height-preserved
+digest_beneath-loop-height-preserved g t c =
+    let config = c.args.config.now in
+    let v = c.args.verity.now in
+    let tree = c.args.tree.now in
+    let index : ℕ = c.args.end.index in
+    let height : ℕ = c.loop-height.height in
+    let inv = c.loop-height.invariant in
+    let block = c.in-Ok.block in
+    let low : 0 < height = omega (arith, c.loop-height-test.true) in
+    let all : c.levels-height.result ≡ levels (tree_of v) = c.levels-height.ensures.value ∙ ap levels c.requires.block.lies.shape_is in
+    let less : levels (tree_of v) - height < c.args.end.above = omega (arith, c.loop-height-test.true, all, inv.within.0, inv.within.1, c.requires.above) in
+    let next : c.digest_in-digest.result ≡ next_digest v (height - 1) index block.items =
+    c.digest_in-digest.ensures ∙ ap (λ (b : List ℕ). digest_in b c.slot_on_path.result) c.as_slice.ensures.value
+    ∙ ap (digest_in block.items) (c.slot_on_path.ensures.value ∙ ap (λ (t : ShapeRecord). slot t (ancestor t (height - 1) index)) c.requires.block.lies.shape_is) in
+    let touched = hash-touched config v tree c.requires.stack.sound.loaded c.requires.block.lies c.hash_extent-extent.result c.hash_extent-extent.ensures c.in-Ok.ensures.touches in
+    record {
+      within = (omega (arith, c.loop-height-test.true), omega (arith, inv.within.1));
+      known = subst (λ (d : List ℕ). IsDigestBeneath (block_in config v index) (levels (tree_of v) - (height - 1)) d (map g.D.BlockDev.state c.args.backing.now.devices.items) (map g.D.BlockDev.state c.hash_block.new.backing.devices.items)) (sym next)
+          (beneath-down config v tree index c.requires.block.lies height low inv.within.1 c.hash_extent-extent.result c.hash_extent-extent.ensures inv.known block c.in-Ok.ensures.reads);
+      cached = record { capacity = c.in-Ok.ensures.cached.capacity ∙ inv.cached.capacity; sound = c.in-Ok.ensures.cached.sound };
+      touches = asks-then inv.touches (asks-as (Ok tt) tt (λ failures. refl) touched);
+      given = λ j. subst (λ (d : List ℕ). LeadsTo (DeviceDoes g.D.BlockDev.state g.D.BlockDev.does) config (digest_of (place_in v tree j) (end_of c.args.end) 0 v.root) (digest_of (place_in v tree j) (end_of c.args.end) (levels (tree_of v) - (height - 1)) d) (served c.args.backing.now) (served c.hash_block.new.backing)) (sym next)
+          (digest-down v tree j height low inv.within.1 (inv.given j) block.items less (reads-expected hash_of (ap (λ (e : Extent). expected_in e v.salt c.loop-height.digest) c.hash_extent-extent.ensures.value) c.in-Ok.ensures.given));
+    }
+
+pub digest_beneath-returns-clause-reads : goal.digest_beneath-returns-clause-reads
+digest_beneath-returns-clause-reads g t c =
+    let v = c.args.verity.now in
+    let all : c.levels-height.result ≡ levels (tree_of v) = c.levels-height.ensures.value ∙ ap levels c.requires.block.lies.shape_is in
+    let inv = c.loop-height.invariant in
+    beneath-ends (block_in c.args.config.now v c.args.end.index) (levels (tree_of v) - c.loop-height.height) c.args.end.above (omega (arith, c.loop-height-test.false, all, inv.within.0, inv.within.1, c.requires.above)) inv.known
+
+pub digest_beneath-returns-clause-touches : goal.digest_beneath-returns-clause-touches
+digest_beneath-returns-clause-touches g t c = asks-as (Ok c.loop-height.digest) tt (λ failures. refl) c.loop-height.invariant.touches
+
+pub digest_beneath-returns-clause-given : goal.digest_beneath-returns-clause-given
+digest_beneath-returns-clause-given g t c j =
+    let v = c.args.verity.now in
+    let all : c.levels-height.result ≡ levels (tree_of v) = c.levels-height.ensures.value ∙ ap levels c.requires.block.lies.shape_is in
+    let inv = c.loop-height.invariant in
+    digest-given (omega (arith, c.loop-height-test.false, all, inv.within.0, inv.within.1, c.requires.above)) (inv.given j)
+
+-- ---- a block that is judged
+
+-- the line has parity
+protected : (o : Option Parity) (q : Parity) → o ≡ Some q → IsTrue (is_some o)
+protected o q has = ap is_some has
+
+pub judge_block-stored_digest-requires : goal.judge_block-stored_digest-requires
+judge_block-stored_digest-requires g t c κs within = (omega arith, (within, (c.requires.stack, c.requires.block)))
+
+pub judge_block-known_digest-known-requires : goal.judge_block-known_digest-known-requires
+judge_block-known_digest-known-requires g t c κs within =
+    (omega arith, (within, (stack-later c.args.config.now c.stored_digest.ensures.reads.moved.moved.fixed c.requires.stack c.stored_digest.ensures.cached, c.requires.block.lies)))
+
+pub judge_block-known_digest-known-requires-in-Ok : goal.judge_block-known_digest-known-requires-in-Ok
+judge_block-known_digest-known-requires-in-Ok g t c κs within =
+    (omega arith, (within, (stack-later c.args.config.now c.stored_digest.ensures.reads.moved.moved.fixed c.requires.stack c.stored_digest.ensures.cached, c.requires.block.lies)))
+
+-- its own read ended in a fault of a line, or in memory's
+fault-digest : (c : Configuration) (v : Verity) (k : ℕ) {old new : List Device} {e other : IoFault} → e ≡ other → Gets (stored_digest_wanted c v k) old new (Err e) → Gets (stored_digest_wanted c v k) old new (Err other)
+fault-digest c v k {old = old} {new = new} is got = subst (λ (e : IoFault). Gets (stored_digest_wanted c v k) old new (Err e)) is got
+
+fault-reads : {D : Type 0} {does : D → Call → D → Type 0} (c : Configuration) (p : DataPlace) (k : ℕ) {old new : Served D} {e other : IoFault} → e ≡ other → ReadsBy does c (block_at p k) old new (Err e) → ReadsBy does c (block_at p k) old new (Err other)
+fault-reads {does = does} c p k {old = old} {new = new} is got = subst (λ (e : IoFault). ReadsBy does c (block_at p k) old new (Err e)) is got
+
+pub judge_block-returns-in-Err-Stack-clause-ok : goal.judge_block-returns-in-Err-Stack-clause-ok
+judge_block-returns-in-Err-Stack-clause-ok g t c =
+    judged-refused c.args.config.now c.args.verity.now c.args.number _ (judge-most (block_in c.args.config.now c.args.verity.now c.args.number)) (fault-digest c.args.config.now c.args.verity.now c.args.number c.in-Err-Stack.field-0-is c.in-Err-Stack.ensures.reads)
+
+pub judge_block-returns-in-Err-Stack-clause-touches : goal.judge_block-returns-in-Err-Stack-clause-touches
+judge_block-returns-in-Err-Stack-clause-touches g t c =
+    let v = c.args.verity.now in
+    let b = c.requires.block in
+    asks-one v.parity (Ok Lost) (protected v.parity b.parity b.has) (λ none. none c.args.tree.now.device.0 c.args.tree.now.line v b.lies.is) tt c.in-Err-Stack.ensures.touches
+
+pub judge_block-returns-in-Err-Stack-clause-given : goal.judge_block-returns-in-Err-Stack-clause-given
+judge_block-returns-in-Err-Stack-clause-given g t c j q i l expected next = judges-refused expected _ next (fault-reads c.args.config.now (place_in c.args.verity.now c.args.tree.now c.args.number) c.args.number c.in-Err-Stack.field-0-is c.in-Err-Stack.ensures.given)
+
+pub judge_block-returns-in-Err-NoMemory-clause-err : goal.judge_block-returns-in-Err-NoMemory-clause-err
+judge_block-returns-in-Err-NoMemory-clause-err g t c =
+    judged-short c.args.config.now c.args.verity.now c.args.number (judge-most (block_in c.args.config.now c.args.verity.now c.args.number)) (fault-digest c.args.config.now c.args.verity.now c.args.number c.in-Err-NoMemory.field-0-is c.in-Err-NoMemory.ensures.reads)
+
+pub judge_block-returns-in-Err-NoMemory-clause-touches : goal.judge_block-returns-in-Err-NoMemory-clause-touches
+judge_block-returns-in-Err-NoMemory-clause-touches g t c =
+    let v = c.args.verity.now in
+    let b = c.requires.block in
+    asks-one v.parity (Err NoMemory) (protected v.parity b.parity b.has) (λ none. none c.args.tree.now.device.0 c.args.tree.now.line v b.lies.is) tt c.in-Err-NoMemory.ensures.touches
+
+pub judge_block-returns-in-Err-NoMemory-clause-given : goal.judge_block-returns-in-Err-NoMemory-clause-given
+judge_block-returns-in-Err-NoMemory-clause-given g t c j q i l expected next = judges-short expected next (fault-reads c.args.config.now (place_in c.args.verity.now c.args.tree.now c.args.number) c.args.number c.in-Err-NoMemory.field-0-is c.in-Err-NoMemory.ensures.given)
+
+-- its leaf failed
+pub judge_block-returns-in-Err-Device-clause-ok : goal.judge_block-returns-in-Err-Device-clause-ok
+judge_block-returns-in-Err-Device-clause-ok g t c =
+    let config = c.args.config.now in
+    let v = c.args.verity.now in
+    let b = c.requires.block in
+    let k : ℕ = c.args.number in
+    subst (λ (r : Result Judged IoFault). IfOk r (IsJudged config v k (map g.D.BlockDev.state c.args.backing.now.devices.items) (map g.D.BlockDev.state c.known_digest-known.new.backing.devices.items))) (sym c.judge_by.ensures)
+    (judged-unread config v k (judge-fits config v c.args.tree.now b.parity k c.requires.stack.sound.loaded b.lies b.has) c.in-Err-Device.leaf (fault-digest c.args.config.now c.args.verity.now c.args.number c.in-Err-Device.field-0-is c.in-Err-Device.ensures.reads) c.known_digest-known.result c.known_digest-known.ensures.reads)
+
+pub judge_block-returns-in-Err-Device-clause-named : goal.judge_block-returns-in-Err-Device-clause-named
+judge_block-returns-in-Err-Device-clause-named g t c =
+    let these = leaves_of c.args.config.now (mapped c.args.tree.now.device.0) in
+    subst (λ (r : Result Judged IoFault). IfOk r (λ judged. NamesLeaf these (failed_of judged))) (sym c.judge_by.ensures)
+    (unread-named these c.in-Err-Device.leaf c.known_digest-known.result (subst (λ (e : IoFault). NamesOneOf these e) c.in-Err-Device.field-0-is c.in-Err-Device.ensures.touches.fault))
+
+pub judge_block-returns-in-Err-Device-clause-err : goal.judge_block-returns-in-Err-Device-clause-err
+judge_block-returns-in-Err-Device-clause-err g t c =
+    let config = c.args.config.now in
+    let v = c.args.verity.now in
+    let b = c.requires.block in
+    let k : ℕ = c.args.number in
+    subst (λ (r : Result Judged IoFault). IfErr r (IsUnjudged (block_in config v k) (judge_cost (block_in config v k)) (map g.D.BlockDev.state c.args.backing.now.devices.items) (map g.D.BlockDev.state c.known_digest-known.new.backing.devices.items))) (sym c.judge_by.ensures)
+    (unjudged-unread config v k (judge-fits config v c.args.tree.now b.parity k c.requires.stack.sound.loaded b.lies b.has) c.in-Err-Device.leaf (fault-digest c.args.config.now c.args.verity.now c.args.number c.in-Err-Device.field-0-is c.in-Err-Device.ensures.reads) c.known_digest-known.result c.known_digest-known.ensures.reads)
+
+pub judge_block-returns-in-Err-Device-clause-cached : goal.judge_block-returns-in-Err-Device-clause-cached
+judge_block-returns-in-Err-Device-clause-cached g t c = record { capacity = c.known_digest-known.ensures.cached.capacity ∙ c.in-Err-Device.ensures.cached.capacity; sound = c.known_digest-known.ensures.cached.sound }
+
+pub judge_block-returns-in-Err-Device-clause-touches : goal.judge_block-returns-in-Err-Device-clause-touches
+judge_block-returns-in-Err-Device-clause-touches g t c =
+    let v = c.args.verity.now in
+    let b = c.requires.block in
+    let these = leaves_of c.args.config.now (mapped c.args.tree.now.device.0) in
+    asks-both v.parity c.judge_by.result (protected v.parity b.parity b.has) (λ none. none c.args.tree.now.device.0 c.args.tree.now.line v b.lies.is)
+    (subst (λ (r : Result Judged IoFault). IfErr r (NamesOneOf these)) (sym c.judge_by.ensures) (unread-fault these c.in-Err-Device.leaf c.known_digest-known.result (subst (λ (e : IoFault). NamesOneOf these e) c.in-Err-Device.field-0-is c.in-Err-Device.ensures.touches.fault) c.known_digest-known.ensures.touches.fault))
+    c.in-Err-Device.ensures.touches c.known_digest-known.ensures.touches
+
+pub judge_block-returns-in-Err-Device-clause-given : goal.judge_block-returns-in-Err-Device-clause-given
+judge_block-returns-in-Err-Device-clause-given g t c j q i l expected next =
+    judges-by expected c.judge_by.result next (fault-reads c.args.config.now (place_in c.args.verity.now c.args.tree.now c.args.number) c.args.number c.in-Err-Device.field-0-is c.in-Err-Device.ensures.given) (c.known_digest-known.ensures.given j) c.judge_by.ensures
+
+-- it was read
+pub judge_block-returns-in-Ok-clause-ok : goal.judge_block-returns-in-Ok-clause-ok
+judge_block-returns-in-Ok-clause-ok g t c =
+    let config = c.args.config.now in
+    let v = c.args.verity.now in
+    let b = c.requires.block in
+    let k : ℕ = c.args.number in
+    subst (λ (r : Result Judged IoFault). IfOk r (IsJudged config v k (map g.D.BlockDev.state c.args.backing.now.devices.items) (map g.D.BlockDev.state c.known_digest-known-in-Ok.new.backing.devices.items))) (sym c.judge_by-in-Ok.ensures)
+    (judged-read config v k (judge-fits config v c.args.tree.now b.parity k c.requires.stack.sound.loaded b.lies b.has) c.in-Ok.own c.in-Ok.ensures.reads c.known_digest-known-in-Ok.result c.known_digest-known-in-Ok.ensures.reads)
+
+pub judge_block-returns-in-Ok-clause-named : goal.judge_block-returns-in-Ok-clause-named
+judge_block-returns-in-Ok-clause-named g t c =
+    let these = leaves_of c.args.config.now (mapped c.args.tree.now.device.0) in
+    subst (λ (r : Result Judged IoFault). IfOk r (λ judged. NamesLeaf these (failed_of judged))) (sym c.judge_by-in-Ok.ensures) (read-named these c.in-Ok.own c.known_digest-known-in-Ok.result)
+
+pub judge_block-returns-in-Ok-clause-err : goal.judge_block-returns-in-Ok-clause-err
+judge_block-returns-in-Ok-clause-err g t c =
+    let config = c.args.config.now in
+    let v = c.args.verity.now in
+    let b = c.requires.block in
+    let k : ℕ = c.args.number in
+    subst (λ (r : Result Judged IoFault). IfErr r (IsUnjudged (block_in config v k) (judge_cost (block_in config v k)) (map g.D.BlockDev.state c.args.backing.now.devices.items) (map g.D.BlockDev.state c.known_digest-known-in-Ok.new.backing.devices.items))) (sym c.judge_by-in-Ok.ensures)
+    (unjudged-read config v k (judge-fits config v c.args.tree.now b.parity k c.requires.stack.sound.loaded b.lies b.has) c.in-Ok.own c.in-Ok.ensures.reads c.known_digest-known-in-Ok.result c.known_digest-known-in-Ok.ensures.reads)
+
+pub judge_block-returns-in-Ok-clause-cached : goal.judge_block-returns-in-Ok-clause-cached
+judge_block-returns-in-Ok-clause-cached g t c = record { capacity = c.known_digest-known-in-Ok.ensures.cached.capacity ∙ c.in-Ok.ensures.cached.capacity; sound = c.known_digest-known-in-Ok.ensures.cached.sound }
+
+pub judge_block-returns-in-Ok-clause-touches : goal.judge_block-returns-in-Ok-clause-touches
+judge_block-returns-in-Ok-clause-touches g t c =
+    let v = c.args.verity.now in
+    let b = c.requires.block in
+    let these = leaves_of c.args.config.now (mapped c.args.tree.now.device.0) in
+    asks-both v.parity c.judge_by-in-Ok.result (protected v.parity b.parity b.has) (λ none. none c.args.tree.now.device.0 c.args.tree.now.line v b.lies.is)
+    (subst (λ (r : Result Judged IoFault). IfErr r (NamesOneOf these)) (sym c.judge_by-in-Ok.ensures) (read-fault these c.in-Ok.own c.known_digest-known-in-Ok.result c.known_digest-known-in-Ok.ensures.touches.fault))
+    c.in-Ok.ensures.touches c.known_digest-known-in-Ok.ensures.touches
+
+pub judge_block-returns-in-Ok-clause-given : goal.judge_block-returns-in-Ok-clause-given
+judge_block-returns-in-Ok-clause-given g t c j q i l expected next =
+    judges-by expected c.judge_by-in-Ok.result next c.in-Ok.ensures.given.2 (c.known_digest-known-in-Ok.ensures.given j) (c.judge_by-in-Ok.ensures ∙ ap (λ (d : List ℕ). judge_by (Ok d) c.known_digest-known-in-Ok.result) c.in-Ok.ensures.given.1)
+
+-- ---- the others of a round
+
+-- another block is covered
+pub judge_other-judge_block-requires : goal.judge_other-judge_block-requires
+judge_other-judge_block-requires g t c κs within = (omega arith, (within, (c.requires.stack, c.in-Some.ensures.covered)))
+
+pub judge_other-returns-in-None-clause-finds : goal.judge_other-returns-in-None-clause-finds
+judge_other-returns-in-None-clause-finds g t c q has few low first so_far =
+    let place = place_in c.args.verity.now c.args.tree.now c.args.losses.now.lost.index in
+    found-past g.D.BlockDev.state c.args.config.now place q so_far few low (sym (c.in-None.ensures.is ∙ ap (λ (o : Option Parity). other_in o c.args.losses.now.lost.index c.args.place) has))
+
+pub judge_other-returns-in-Err-clause-finds : goal.judge_other-returns-in-Err-clause-finds
+judge_other-returns-in-Err-clause-finds g t c q has few low first so_far =
+    let v = c.args.verity.now in
+    let tree = c.args.tree.now in
+    let j : ℕ = c.args.losses.now.lost.index in
+    let place = place_in v tree j in
+    let at : other_number q j c.args.place ≡ Some c.in-Some.number = sym (c.in-Some.ensures.is ∙ ap (λ (o : Option Parity). other_in o j c.args.place) has) in
+    let next : IsNext q j c.args.place (record_of c.args.losses.now) c.in-Some.number = record { few = few; low = low; at = at } in
+    let round = is-round c.args.config.now v tree c.requires.stack.sound.loaded c.requires.block.lies j c.requires.block.there q has in
+    unfound-next g.D.BlockDev.state c.args.config.now place q so_far c.in-Some.number next round.some c.in-Err.full c.in-Err.ensures.err (λ expected. c.in-Err.ensures.given j q c.args.place (record_of c.args.losses.now) expected next)
+
+pub judge_other-returns-in-Ok-note-clause-finds : goal.judge_other-returns-in-Ok-note-clause-finds
+judge_other-returns-in-Ok-note-clause-finds g t c q has few low first so_far =
+    let v = c.args.verity.now in
+    let tree = c.args.tree.now in
+    let j : ℕ = c.args.losses.now.lost.index in
+    let place = place_in v tree j in
+    let at : other_number q j c.args.place ≡ Some c.in-Some.number = sym (c.in-Some.ensures.is ∙ ap (λ (o : Option Parity). other_in o j c.args.place) has) in
+    let next : IsNext q j c.args.place (record_of c.args.losses.now) c.in-Some.number = record { few = few; low = low; at = at } in
+    subst (λ (l : LossRecord). AreFoundUpTo g.D.BlockDev.state (DeviceDoes g.D.BlockDev.state g.D.BlockDev.does) c.args.config.now place q (suc c.args.place) first c.judge_block.new.backing l) (sym c.in-Ok-note.ensures.ok.is)
+    (found-next g.D.BlockDev.state c.args.config.now place q so_far c.in-Some.number next c.in-Ok.judged c.in-Ok.ensures.ok (λ expected. c.in-Ok.ensures.given j q c.args.place (record_of c.args.losses.now) expected next))
+
+pub judge_other-returns-in-Err-note-clause-finds : goal.judge_other-returns-in-Err-note-clause-finds
+judge_other-returns-in-Err-note-clause-finds g t c q has few low first so_far =
+    let v = c.args.verity.now in
+    let tree = c.args.tree.now in
+    let j : ℕ = c.args.losses.now.lost.index in
+    let place = place_in v tree j in
+    let at : other_number q j c.args.place ≡ Some c.in-Some.number = sym (c.in-Some.ensures.is ∙ ap (λ (o : Option Parity). other_in o j c.args.place) has) in
+    let next : IsNext q j c.args.place (record_of c.args.losses.now) c.in-Some.number = record { few = few; low = low; at = at } in
+    let round = is-round c.args.config.now v tree c.requires.stack.sound.loaded c.requires.block.lies j c.requires.block.there q has in
+    unfound-full g.D.BlockDev.state c.args.config.now place q round.some (omega (arith, low))
+    (found-next g.D.BlockDev.state c.args.config.now place q so_far c.in-Some.number next c.in-Ok.judged c.in-Ok.ensures.ok (λ expected. c.in-Ok.ensures.given j q c.args.place (record_of c.args.losses.now) expected next)) c.in-Err-note.ensures.err
+
+pub judge_other-returns-in-Ok-note-clause-same : goal.judge_other-returns-in-Ok-note-clause-same
+judge_other-returns-in-Ok-note-clause-same g t c = c.in-Ok-note.ensures.ok.lost
+
+pub judge_other-returns-in-Err-clause-touches : goal.judge_other-returns-in-Err-clause-touches
+judge_other-returns-in-Err-clause-touches g t c = asks-as (Err c.in-Err.full) c.in-Err.ensures.touches.fault (λ failures. refl) c.in-Err.ensures.touches
+
+pub judge_other-returns-in-Ok-note-clause-touches : goal.judge_other-returns-in-Ok-note-clause-touches
+judge_other-returns-in-Ok-note-clause-touches g t c = asks-as (Ok tt) tt (λ failures. refl) c.in-Ok.ensures.touches
+
+pub judge_other-returns-in-Err-note-clause-touches : goal.judge_other-returns-in-Err-note-clause-touches
+judge_other-returns-in-Err-note-clause-touches g t c = asks-as (Err NoMemory) tt (λ failures. refl) c.in-Ok.ensures.touches
+
+-- ---- the lost blocks of a round
+
+pub find_losses-returns-in-Err-clause-err : goal.find_losses-returns-in-Err-clause-err
+find_losses-returns-in-Err-clause-err g t c q has =
+    let v = c.args.verity.now in
+    let tree = c.args.tree.now in
+    let j : ℕ = c.args.lost.now.index in
+    let round = is-round c.args.config.now v tree c.requires.stack.sound.loaded c.requires.block.lies j c.requires.block.there q has in
+    unfound-full g.D.BlockDev.state c.args.config.now (place_in v tree j) q round.some (omega arith) (found-none g.D.BlockDev.state c.args.config.now (place_in v tree j) q c.args.backing.now) c.in-Err.ensures.err
+
+pub find_losses-returns-in-None-clause-ok : goal.find_losses-returns-in-None-clause-ok
+find_losses-returns-in-None-clause-ok g t c q has = let clash : None ≡ Some q = sym c.in-None.is ∙ has in absurd cc
+
+pub find_losses-returns-in-None-clause-touches : goal.find_losses-returns-in-None-clause-touches
+find_losses-returns-in-None-clause-touches g t c = asks-none _ (leaves_of c.args.config.now (mapped c.args.tree.now.device.0)) (map g.D.BlockDev.state c.args.backing.now.devices.items) _ tt refl
+
+pub find_losses-returns-in-None-clause-named : goal.find_losses-returns-in-None-clause-named
+find_losses-returns-in-None-clause-named g t c = subst (λ (o : Option ℕ). NamesLeaf (leaves_of c.args.config.now (mapped c.args.tree.now.device.0)) o) (sym c.in-Ok.ensures.none) tt
+
+pub find_losses-loop-place-init : goal.find_losses-loop-place-init
+find_losses-loop-place-init g t c =
+    let config = c.args.config.now in
+    let v = c.args.verity.now in
+    let tree = c.args.tree.now in
+    let place = place_in v tree c.args.lost.now.index in
+    let leaves = map g.D.BlockDev.state c.args.backing.now.devices.items in
+    record {
+      within = omega arith;
+      same = c.in-Ok.ensures.ok;
+      named = subst (λ (o : Option ℕ). NamesLeaf (leaves_of config (mapped tree.device.0)) o) (sym c.in-Ok.ensures.none) tt;
+      found = λ q has. subst (λ (l : LossRecord). AreFoundUpTo g.D.BlockDev.state (DeviceDoes g.D.BlockDev.state g.D.BlockDev.does) config place q 0 c.args.backing.now c.args.backing.now l) (sym (c.in-Ok.ensures.place q has)) (found-none g.D.BlockDev.state config place q c.args.backing.now);
+      cached = record { capacity = refl; sound = c.requires.stack.cached };
+      touches = asks-none _ (leaves_of config (mapped tree.device.0)) leaves (Ok tt) tt refl;
+    }
+
+pub find_losses-judge_other-requires : goal.find_losses-judge_other-requires
+find_losses-judge_other-requires g t c κs within =
+    let inv = c.loop-place.invariant in
+    let found = inv.found c.in-Some.parity c.in-Some.is in
+    (omega arith, (within, (stack-later c.args.config.now found.judged.moved.moved.fixed c.requires.stack inv.cached, subst (λ (x : LostBlock). HasVerifiedBlock c.args.config.now c.args.verity.now c.args.tree.now x.index) (sym inv.same) c.requires.block)))
+
+pub find_losses-returns-then-len-roots-clause-same : goal.find_losses-returns-then-len-roots-clause-same
+find_losses-returns-then-len-roots-clause-same g t c = c.loop-place.invariant.same
+
+pub find_losses-returns-then-len-roots-clause-ok : goal.find_losses-returns-then-len-roots-clause-ok
+find_losses-returns-then-len-roots-clause-ok g t c q has =
+    let inv = c.loop-place.invariant in
+    record {
+      count = c.loop-place.place;
+      found = inv.found q has;
+      most = omega (arith, mend-inside c.args.verity.now.parity c.in-Some.parity q c.loop-place.place c.in-Some.is has (omega (arith, c.loop-place-test.true)));
+      all = inr (many-lost c.args.verity.now.parity c.in-Some.parity q (length c.loop-place.losses.places.items) c.in-Some.is has (omega (arith, c.if-len-roots.true, c.loop-place.losses.places.ok.0)));
+    }
+
+pub find_losses-returns-then-len-roots-clause-cached : goal.find_losses-returns-then-len-roots-clause-cached
+find_losses-returns-then-len-roots-clause-cached g t c = c.loop-place.invariant.cached
+
+pub find_losses-returns-then-len-roots-clause-touches : goal.find_losses-returns-then-len-roots-clause-touches
+find_losses-returns-then-len-roots-clause-touches g t c = asks-as (Ok c.loop-place.losses) tt (λ failures. refl) c.loop-place.invariant.touches
+
+pub find_losses-returns-in-Err-judge_other-clause-err : goal.find_losses-returns-in-Err-judge_other-clause-err
+find_losses-returns-in-Err-judge_other-clause-err g t c q has =
+    let inv = c.loop-place.invariant in
+    let few = few-lost c.args.verity.now.parity c.in-Some.parity q (length c.loop-place.losses.places.items) c.in-Some.is has (omega (arith, c.if-len-roots.false, c.loop-place.losses.places.ok.0)) in
+    let low = mend-inside c.args.verity.now.parity c.in-Some.parity q c.loop-place.place c.in-Some.is has (omega (arith, c.loop-place-test.true)) in
+    let index : c.loop-place.losses.lost.index ≡ c.args.lost.now.index = ap (λ (x : LostBlock). x.index) inv.same in
+    subst (λ (j : ℕ). AreFoundUpTo g.D.BlockDev.state (DeviceDoes g.D.BlockDev.state g.D.BlockDev.does) c.args.config.now (place_in c.args.verity.now c.args.tree.now j) q c.loop-place.place c.args.backing.now c.loop-place.backing (record_of c.loop-place.losses)
+    → AreUnfound g.D.BlockDev.state (DeviceDoes g.D.BlockDev.state g.D.BlockDev.does) c.args.config.now (place_in c.args.verity.now c.args.tree.now j) q c.args.backing.now c.judge_other.new.backing c.in-Err-judge_other.full) index
+    (c.in-Err-judge_other.ensures.finds q has few low c.args.backing.now) (inv.found q has)
+
+pub find_losses-returns-in-Err-judge_other-clause-cached : goal.find_losses-returns-in-Err-judge_other-clause-cached
+find_losses-returns-in-Err-judge_other-clause-cached g t c = record { capacity = c.in-Err-judge_other.ensures.cached.capacity ∙ c.loop-place.invariant.cached.capacity; sound = c.in-Err-judge_other.ensures.cached.sound }
+
+pub find_losses-returns-in-Err-judge_other-clause-touches : goal.find_losses-returns-in-Err-judge_other-clause-touches
+find_losses-returns-in-Err-judge_other-clause-touches g t c = asks-then c.loop-place.invariant.touches (asks-as (Err c.in-Err-judge_other.full) c.in-Err-judge_other.ensures.touches.fault (λ failures. refl) c.in-Err-judge_other.ensures.touches)
+
+pub find_losses-loop-place-preserved : goal.find_losses-loop-place-preserved
+find_losses-loop-place-preserved g t c =
+    let inv = c.loop-place.invariant in
+    let next : suc c.loop-place.place ≡ c.loop-place.place + 1 = omega arith in
+    let index : c.loop-place.losses.lost.index ≡ c.args.lost.now.index = ap (λ (x : LostBlock). x.index) inv.same in
+    let state = g.D.BlockDev.state in
+    let does = DeviceDoes g.D.BlockDev.state g.D.BlockDev.does in
+    record {
+      within = omega (arith, c.loop-place-test.true);
+      same = c.in-Ok-judge_other.ensures.same ∙ inv.same;
+      named = c.in-Ok-judge_other.ensures.named inv.named;
+      found = λ q has.
+          let few = few-lost c.args.verity.now.parity c.in-Some.parity q (length c.loop-place.losses.places.items) c.in-Some.is has (omega (arith, c.if-len-roots.false, c.loop-place.losses.places.ok.0)) in
+          let low = mend-inside c.args.verity.now.parity c.in-Some.parity q c.loop-place.place c.in-Some.is has (omega (arith, c.loop-place-test.true)) in
+          subst (λ (k : ℕ). AreFoundUpTo state does c.args.config.now (place_in c.args.verity.now c.args.tree.now c.args.lost.now.index) q k c.args.backing.now c.judge_other.new.backing (record_of c.judge_other.new.losses)) next
+          (subst (λ (j : ℕ). AreFoundUpTo state does c.args.config.now (place_in c.args.verity.now c.args.tree.now j) q c.loop-place.place c.args.backing.now c.loop-place.backing (record_of c.loop-place.losses)
+          → AreFoundUpTo state does c.args.config.now (place_in c.args.verity.now c.args.tree.now j) q (suc c.loop-place.place) c.args.backing.now c.judge_other.new.backing (record_of c.judge_other.new.losses)) index
+          (c.in-Ok-judge_other.ensures.finds q has few low c.args.backing.now) (inv.found q has));
+      cached = record { capacity = c.in-Ok-judge_other.ensures.cached.capacity ∙ inv.cached.capacity; sound = c.in-Ok-judge_other.ensures.cached.sound };
+      touches = asks-then inv.touches c.in-Ok-judge_other.ensures.touches;
+    }
+
+pub find_losses-returns-clause-same : goal.find_losses-returns-clause-same
+find_losses-returns-clause-same g t c = c.loop-place.invariant.same
+
+pub find_losses-returns-clause-ok : goal.find_losses-returns-clause-ok
+find_losses-returns-clause-ok g t c q has =
+    let inv = c.loop-place.invariant in
+    let all = same-roots c.args.verity.now.parity c.in-Some.parity q c.in-Some.is has in
+    record {
+      count = c.loop-place.place;
+      found = inv.found q has;
+      most = omega (arith, inv.within, all);
+      all = inl (omega (arith, c.loop-place-test.false, inv.within, all));
+    }
+
+pub find_losses-returns-clause-touches : goal.find_losses-returns-clause-touches
+find_losses-returns-clause-touches g t c = asks-as (Ok c.loop-place.losses) tt (λ failures. refl) c.loop-place.invariant.touches
+
+-- ---- the lost blocks are restored
+
+pub mend_erased-returns-in-None-clause-reads : goal.mend_erased-returns-in-None-clause-reads
+mend_erased-returns-in-None-clause-reads g t c = erased-none (block_in c.args.config.now c.args.verity.now c.args.lost.now.index) c.args.lost.now.digest (map g.D.BlockDev.state c.args.backing.now.devices.items) c.in-None.is
+
+pub mend_erased-returns-in-None-clause-given : goal.mend_erased-returns-in-None-clause-given
+mend_erased-returns-in-None-clause-given g t c = erased-past (place_in c.args.verity.now c.args.tree.now c.args.lost.now.index) c.args.lost.now.digest c.in-None.is
+
+pub mend_erased-find_losses-requires : goal.mend_erased-find_losses-requires
+mend_erased-find_losses-requires g t c κs within = (omega arith, (within, (c.requires.stack, c.requires.block)))
+
+pub mend_erased-returns-in-Err-clause-reads : goal.mend_erased-returns-in-Err-clause-reads
+mend_erased-returns-in-Err-clause-reads g t c =
+    let config = c.args.config.now in
+    let v = c.args.verity.now in
+    let tree = c.args.tree.now in
+    let index : ℕ = c.args.lost.now.index in
+    let q = c.in-Some.parity in
+    let has = c.in-Some.is in
+    let round = is-round config v tree c.requires.stack.sound.loaded c.requires.block.lies index c.requires.block.there q has in
+    let shape = (line-facts config tree.device.0 tree.line v c.requires.stack.sound.loaded c.requires.block.lies.is).2.shape in
+    erased-unfound (block_in config v index) q has round.some round.few (block-covered config v tree index c.requires.stack.sound.loaded c.requires.block q has) shape c.args.lost.now.digest c.in-Err.full (c.in-Err.ensures.err q has).judged
+
+pub mend_erased-returns-in-Err-clause-given : goal.mend_erased-returns-in-Err-clause-given
+mend_erased-returns-in-Err-clause-given g t c = erased-unjudged c.in-Some.is ((c.in-Err.ensures.err c.in-Some.parity c.in-Some.is).given c.args.lost.now.digest)
+
+pub mend_erased-returns-in-Err-clause-touches : goal.mend_erased-returns-in-Err-clause-touches
+mend_erased-returns-in-Err-clause-touches g t c = asks-as (Err c.in-Err.full) c.in-Err.ensures.touches.fault (λ failures. refl) c.in-Err.ensures.touches
+
+pub mend_erased-returns-then-len-roots-clause-reads : goal.mend_erased-returns-then-len-roots-clause-reads
+mend_erased-returns-then-len-roots-clause-reads g t c =
+    let config = c.args.config.now in
+    let v = c.args.verity.now in
+    let tree = c.args.tree.now in
+    let index : ℕ = c.args.lost.now.index in
+    let q = c.in-Some.parity in
+    let has = c.in-Some.is in
+    let l = record_of c.in-Ok.losses in
+    let found = c.in-Ok.ensures.ok q has in
+    let round = is-round config v tree c.requires.stack.sound.loaded c.requires.block.lies index c.requires.block.there q has in
+    let shape = (line-facts config tree.device.0 tree.line v c.requires.stack.sound.loaded c.requires.block.lies.is).2.shape in
+    subst (λ (e : IoFault). Gets (erased_wanted config v c.args.lost.now) (map g.D.BlockDev.state c.args.backing.now.devices.items) (map g.D.BlockDev.state c.find_losses.new.backing.devices.items) (Err e)) (sym c.vain.ensures)
+    (erased-many (block_in config v index) q has round.some round.few (block-covered config v tree index c.requires.stack.sound.loaded c.requires.block q has) shape c.args.lost.now.digest l found.found.judged found.most (omega (arith, c.if-len-roots.true, c.in-Ok.losses.places.ok.0)))
+
+pub mend_erased-returns-then-len-roots-clause-given : goal.mend_erased-returns-then-len-roots-clause-given
+mend_erased-returns-then-len-roots-clause-given g t c =
+    let has = c.in-Some.is in
+    let place = place_in c.args.verity.now c.args.tree.now c.args.lost.now.index in
+    let found = c.in-Ok.ensures.ok c.in-Some.parity has in
+    subst (λ (e : IoFault). ReadsBy (DeviceDoes g.D.BlockDev.state g.D.BlockDev.does) c.args.config.now (erased_of place c.args.lost.now.digest) (served c.args.backing.now) (served c.find_losses.new.backing) (Err e)) (sym c.vain.ensures)
+    (erased-vain has (found.found.given c.args.lost.now.digest) (omega (arith, c.if-len-roots.true, c.in-Ok.losses.places.ok.0)))
+
+pub mend_erased-returns-then-len-roots-clause-touches : goal.mend_erased-returns-then-len-roots-clause-touches
+mend_erased-returns-then-len-roots-clause-touches g t c =
+    let v = c.args.verity.now in
+    let these = leaves_of c.args.config.now (mapped c.args.tree.now.device.0) in
+    asks-one v.parity (Err c.vain.result) (protected v.parity c.in-Some.parity c.in-Some.is) (λ none. none c.args.tree.now.device.0 c.args.tree.now.line v c.requires.block.lies.is)
+    (subst (λ (e : IoFault). NamesOneOf these e) (sym c.vain.ensures) (vain-named these c.in-Ok.losses.failed c.in-Ok.ensures.named)) c.in-Ok.ensures.touches
+
+pub find_losses-returns-then-len-roots-clause-named : goal.find_losses-returns-then-len-roots-clause-named
+find_losses-returns-then-len-roots-clause-named g t c = c.loop-place.invariant.named
+
+pub find_losses-returns-clause-named : goal.find_losses-returns-clause-named
+find_losses-returns-clause-named g t c = c.loop-place.invariant.named
+
+pub judge_other-returns-in-Ok-note-clause-named : goal.judge_other-returns-in-Ok-note-clause-named
+judge_other-returns-in-Ok-note-clause-named g t c before =
+    let these = leaves_of c.args.config.now (mapped c.args.tree.now.device.0) in
+    subst (λ (o : Option ℕ). NamesLeaf these o) (sym (ap (λ (l : LossRecord). l.failed) c.in-Ok-note.ensures.ok.is)) (names-next these c.args.losses.now.failed (record_of c.args.losses.now) c.args.place c.in-Ok.judged refl before c.in-Ok.ensures.named)
+
+-- ---- by erasures
+
+pub mend_erased-restore-requires : goal.mend_erased-restore-requires
+mend_erased-restore-requires g t c κs within =
+    let config = c.args.config.now in
+    let v = c.args.verity.now in
+    let tree = c.args.tree.now in
+    let index : ℕ = c.args.lost.now.index in
+    let q = c.in-Some.parity in
+    let has = c.in-Some.is in
+    let losses = c.in-Ok.losses in
+    let found = c.in-Ok.ensures.ok q has in
+    let round = is-round config v tree c.requires.stack.sound.loaded c.requires.block.lies index c.requires.block.there q has in
+    let same : losses.lost ≡ c.args.lost.now = c.in-Ok.ensures.same in
+    let block = subst (λ (x : LostBlock). HasVerifiedBlock config v tree x.index) (sym same) c.requires.block in
+    let of = subst (λ (x : LostBlock). AreLossesOf v x.index (record_of losses)) (sym same) (losses-found (record_of losses) q has round.low found) in
+    let few : length losses.places.items ≤ 24 = omega (arith, c.if-len-roots.false, losses.places.ok.0, round.few) in
+    (omega arith, (within, (stack-later config found.found.judged.moved.moved.fixed c.requires.stack c.in-Ok.ensures.cached, (block, (of, (few, c.requires.size))))))
+
+-- the restored one of the block that was asked for
+erased-restored : (c : Configuration) (v : Verity) (tree : Tree) (lost own : LostBlock) (l : LossRecord) (q : Parity) {mid new : List Device} (answer : Result (List ℕ) IoFault) → own ≡ lost → Gets (restored_wanted (block_in c v own.index) q l own.digest) mid new answer → Gets (restored_wanted (block_in c v lost.index) q l lost.digest) mid new answer
+erased-restored c v tree lost own l q {mid = mid} {new = new} answer same got = subst (λ (x : LostBlock). Gets (restored_wanted (block_in c v x.index) q l x.digest) mid new answer) same got
+
+pub mend_erased-returns-in-Ok-restore-clause-reads : goal.mend_erased-returns-in-Ok-restore-clause-reads
+mend_erased-returns-in-Ok-restore-clause-reads g t c =
+    let config = c.args.config.now in
+    let v = c.args.verity.now in
+    let tree = c.args.tree.now in
+    let index : ℕ = c.args.lost.now.index in
+    let q = c.in-Some.parity in
+    let has = c.in-Some.is in
+    let losses = c.in-Ok.losses in
+    let found = c.in-Ok.ensures.ok q has in
+    let round = is-round config v tree c.requires.stack.sound.loaded c.requires.block.lies index c.requires.block.there q has in
+    let shape = (line-facts config tree.device.0 tree.line v c.requires.stack.sound.loaded c.requires.block.lies.is).2.shape in
+    let few : length losses.places.items ≤ q.roots = omega (arith, c.if-len-roots.false, losses.places.ok.0) in
+    erased-all (block_in config v index) q has round.some round.few (block-covered config v tree index c.requires.stack.sound.loaded c.requires.block q has) shape c.args.lost.now.digest (record_of losses) found.found.judged (all-judged q found few) few (Ok c.restore.new.out)
+    (erased-restored config v tree c.args.lost.now losses.lost (record_of losses) q (Ok c.restore.new.out) c.in-Ok.ensures.same (c.in-Ok-restore.ensures.reads q has))
+
+pub mend_erased-returns-in-Ok-restore-clause-given : goal.mend_erased-returns-in-Ok-restore-clause-given
+mend_erased-returns-in-Ok-restore-clause-given g t c =
+    let v = c.args.verity.now in
+    let tree = c.args.tree.now in
+    let q = c.in-Some.parity in
+    let has = c.in-Some.is in
+    let losses = c.in-Ok.losses in
+    let found = c.in-Ok.ensures.ok q has in
+    let few : length losses.places.items ≤ q.roots = omega (arith, c.if-len-roots.false, losses.places.ok.0) in
+    erased-given has (found.found.given c.args.lost.now.digest) (Ok c.restore.new.out) (all-judged q found few) few
+    (subst (λ (x : LostBlock). ReadsBy (DeviceDoes g.D.BlockDev.state g.D.BlockDev.does) c.args.config.now (restored_of (place_in v tree x.index) q (record_of losses) x.digest) (served c.find_losses.new.backing) (served c.restore.new.backing) (Ok c.restore.new.out)) c.in-Ok.ensures.same (c.in-Ok-restore.ensures.given q has))
+
+pub mend_erased-returns-in-Ok-restore-clause-cached : goal.mend_erased-returns-in-Ok-restore-clause-cached
+mend_erased-returns-in-Ok-restore-clause-cached g t c = record { capacity = c.in-Ok-restore.ensures.cached.capacity ∙ c.in-Ok.ensures.cached.capacity; sound = c.in-Ok-restore.ensures.cached.sound }
+
+pub mend_erased-returns-in-Ok-restore-clause-touches : goal.mend_erased-returns-in-Ok-restore-clause-touches
+mend_erased-returns-in-Ok-restore-clause-touches g t c = asks-then c.in-Ok.ensures.touches c.in-Ok-restore.ensures.touches
+
+pub mend_erased-returns-clause-reads : goal.mend_erased-returns-clause-reads
+mend_erased-returns-clause-reads g t c =
+    let config = c.args.config.now in
+    let v = c.args.verity.now in
+    let tree = c.args.tree.now in
+    let index : ℕ = c.args.lost.now.index in
+    let q = c.in-Some.parity in
+    let has = c.in-Some.is in
+    let losses = c.in-Ok.losses in
+    let found = c.in-Ok.ensures.ok q has in
+    let round = is-round config v tree c.requires.stack.sound.loaded c.requires.block.lies index c.requires.block.there q has in
+    let shape = (line-facts config tree.device.0 tree.line v c.requires.stack.sound.loaded c.requires.block.lies.is).2.shape in
+    let few : length losses.places.items ≤ q.roots = omega (arith, c.if-len-roots.false, losses.places.ok.0) in
+    let is : c.unhealed.result ≡ unhealed (vain_fault losses.failed) c.in-Err-restore.fault = c.unhealed.ensures ∙ ap (λ (e : IoFault). unhealed e c.in-Err-restore.fault) c.vain-in-Err-restore.ensures in
+    subst (λ (e : IoFault). Gets (erased_wanted config v c.args.lost.now) (map g.D.BlockDev.state c.args.backing.now.devices.items) (map g.D.BlockDev.state c.restore.new.backing.devices.items) (Err e)) (sym is)
+    (erased-all (block_in config v index) q has round.some round.few (block-covered config v tree index c.requires.stack.sound.loaded c.requires.block q has) shape c.args.lost.now.digest (record_of losses) found.found.judged (all-judged q found few) few (Err c.in-Err-restore.fault)
+    (erased-restored config v tree c.args.lost.now losses.lost (record_of losses) q (Err c.in-Err-restore.fault) c.in-Ok.ensures.same (c.in-Err-restore.ensures.reads q has)))
+
+pub mend_erased-returns-clause-given : goal.mend_erased-returns-clause-given
+mend_erased-returns-clause-given g t c =
+    let v = c.args.verity.now in
+    let tree = c.args.tree.now in
+    let q = c.in-Some.parity in
+    let has = c.in-Some.is in
+    let losses = c.in-Ok.losses in
+    let found = c.in-Ok.ensures.ok q has in
+    let few : length losses.places.items ≤ q.roots = omega (arith, c.if-len-roots.false, losses.places.ok.0) in
+    let is : c.unhealed.result ≡ unhealed (vain_fault losses.failed) c.in-Err-restore.fault = c.unhealed.ensures ∙ ap (λ (e : IoFault). unhealed e c.in-Err-restore.fault) c.vain-in-Err-restore.ensures in
+    subst (λ (e : IoFault). ReadsBy (DeviceDoes g.D.BlockDev.state g.D.BlockDev.does) c.args.config.now (erased_of (place_in v tree c.args.lost.now.index) c.args.lost.now.digest) (served c.args.backing.now) (served c.restore.new.backing) (Err e)) (sym is)
+    (erased-given has (found.found.given c.args.lost.now.digest) (Err c.in-Err-restore.fault) (all-judged q found few) few
+    (subst (λ (x : LostBlock). ReadsBy (DeviceDoes g.D.BlockDev.state g.D.BlockDev.does) c.args.config.now (restored_of (place_in v tree x.index) q (record_of losses) x.digest) (served c.find_losses.new.backing) (served c.restore.new.backing) (Err c.in-Err-restore.fault)) c.in-Ok.ensures.same (c.in-Err-restore.ensures.given q has)))
+
+pub mend_erased-returns-clause-touches : goal.mend_erased-returns-clause-touches
+mend_erased-returns-clause-touches g t c =
+    let v = c.args.verity.now in
+    let these = leaves_of c.args.config.now (mapped c.args.tree.now.device.0) in
+    let is : c.unhealed.result ≡ unhealed (vain_fault c.in-Ok.losses.failed) c.in-Err-restore.fault = c.unhealed.ensures ∙ ap (λ (e : IoFault). unhealed e c.in-Err-restore.fault) c.vain-in-Err-restore.ensures in
+    asks-both v.parity (Err c.unhealed.result) (protected v.parity c.in-Some.parity c.in-Some.is) (λ none. none c.args.tree.now.device.0 c.args.tree.now.line v c.requires.block.lies.is)
+    (subst (λ (e : IoFault). NamesOneOf these e) (sym is) (unhealed-named these (vain_fault c.in-Ok.losses.failed) c.in-Err-restore.fault (vain-named these c.in-Ok.losses.failed c.in-Ok.ensures.named) c.in-Err-restore.ensures.touches.fault)) c.in-Ok.ensures.touches c.in-Err-restore.ensures.touches
+
+-- ---- the first of the lost blocks
+
+pub restore-returns-in-Err-clause-reads : goal.restore-returns-in-Err-clause-reads
+restore-returns-in-Err-clause-reads g t c q has =
+    let l = c.args.losses.now in
+    restored-fails (block_in c.args.config.now c.args.verity.now l.lost.index) q (record_of l) l.lost.digest c.in-Err.fault (c.in-Err.ensures.reads q has)
+
+pub restore-returns-in-Err-clause-given : goal.restore-returns-in-Err-clause-given
+restore-returns-in-Err-clause-given g t c q has = restored-lost (c.in-Err.ensures.given q has)
+
+pub restore-returns-clause-reads : goal.restore-returns-clause-reads
+restore-returns-clause-reads g t c q has =
+    let l = c.args.losses.now in
+    restored-differs (block_in c.args.config.now c.args.verity.now l.lost.index) q (record_of l) l.lost.digest (c.in-Ok.ensures.reads q has) (sym c.are_whole.ensures ∙ c.if-are_whole.false)
+
+pub restore-returns-clause-given : goal.restore-returns-clause-given
+restore-returns-clause-given g t c q has = restored-other (sym c.are_whole.ensures ∙ c.if-are_whole.false) (c.in-Ok.ensures.given q has)
+
+-- so many bytes of sums
+restore-long : (size out n : ℕ) (places : List ℕ) (all : List ℕ) → n ≡ length places * out → out ≡ size → n ≤ 98304 → length all ≡ 98304 → length (take n all) ≡ length places * size
+restore-long size out n places all is same fits whole =
+    let long : length (take n all) ≡ n = omega (arith, fits, whole, length-take n all) in
+    long ∙ is ∙ ap (λ (k : ℕ). length places * k) same
+
+pub restore-room-requires-clause-size : goal.restore-room-requires-clause-size
+restore-room-requires-clause-size g t c =
+    let whole = data-whole c.args.config.now c.args.tree.now.device.0 c.args.tree.now.line c.args.verity.now c.requires.stack.sound.loaded c.requires.block.lies.is in
+    omega (arith, c.requires.size, whole.whole, whole.most)
+
+pub restore-slice_bounds-sums-end : goal.restore-slice_bounds-sums-end
+restore-slice_bounds-sums-end g t c =
+    let room : length c.as_mut_slice-all.result.now ≡ 98304 = ap (λ (l : List ℕ). length l) c.as_mut_slice-all.ensures.value in
+    sym (length-take-le c.room.result c.as_mut_slice-all.result.now (omega (arith, room, c.room.ensures.fits)))
+
+pub restore-decode-requires : goal.restore-decode-requires
+restore-decode-requires g t c κs within =
+    let room : length c.as_mut_slice-all.result.now ≡ 98304 = ap (λ (l : List ℕ). length l) c.as_mut_slice-all.ensures.value in
+    let long = restore-long c.args.verity.now.data_block (length c.args.out.now) c.room.result c.args.losses.now.places.items c.as_mut_slice-all.result.now c.room.ensures.value c.requires.size c.room.ensures.fits room in
+    (omega arith, (within, (c.requires.stack, (c.requires.block, (c.requires.losses, long)))))
+
+pub restore-are_whole-requires-clause-size : goal.restore-are_whole-requires-clause-size
+restore-are_whole-requires-clause-size g t c =
+    let room : length c.as_mut_slice-all.result.now ≡ 98304 = ap (λ (l : List ℕ). length l) c.as_mut_slice-all.ensures.value in
+    c.decode.auto.sums ∙ restore-long c.args.verity.now.data_block (length c.args.out.now) c.room.result c.args.losses.now.places.items c.as_mut_slice-all.result.now c.room.ensures.value c.requires.size c.room.ensures.fits room
+
+pub restore-take_first-requires : goal.restore-take_first-requires
+restore-take_first-requires g t c =
+    let size : ℕ = c.args.verity.now.data_block in
+    let room : length c.as_mut_slice-all.result.now ≡ 98304 = ap (λ (l : List ℕ). length l) c.as_mut_slice-all.ensures.value in
+    let long = restore-long size (length c.args.out.now) c.room.result c.args.losses.now.places.items c.as_mut_slice-all.result.now c.room.ensures.value c.requires.size c.room.ensures.fits room in
+    let one : 1 * size ≤ length c.args.losses.now.places.items * size = mul-le-mul_right size (omega (arith, c.requires.losses.some)) in
+    omega (arith, c.decode.auto.sums, long, one, c.requires.size)
+
+pub restore-returns-then-are_whole-clause-reads : goal.restore-returns-then-are_whole-clause-reads
+restore-returns-then-are_whole-clause-reads g t c q has =
+    let config = c.args.config.now in
+    let v = c.args.verity.now in
+    let l = c.args.losses.now in
+    let sums = c.decode.new.sums in
+    let whole = data-whole config c.args.tree.now.device.0 c.args.tree.now.line v c.requires.stack.sound.loaded c.requires.block.lies.is in
+    let room : length c.as_mut_slice-all.result.now ≡ 98304 = ap (λ (l : List ℕ). length l) c.as_mut_slice-all.ensures.value in
+    let long : length sums ≡ length l.places.items * v.data_block = c.decode.auto.sums ∙ restore-long v.data_block (length c.args.out.now) c.room.result l.places.items c.as_mut_slice-all.result.now c.room.ensures.value c.requires.size c.room.ensures.fits room in
+    let first : c.take_first.new.out ≡ column v.data_block sums 0 = c.take_first.ensures ∙ ap (λ (k : ℕ). take k sums) c.requires.size ∙ sym (column-first v.data_block sums) in
+    subst (λ (x : List ℕ). Gets (restored_wanted (block_in config v l.lost.index) q (record_of l) l.lost.digest) (map g.D.BlockDev.state c.args.backing.now.devices.items) (map g.D.BlockDev.state c.decode.new.backing.devices.items) (Ok x)) (sym first)
+    (restored-whole (block_in config v l.lost.index) q (record_of l) l.lost.digest (c.in-Ok.ensures.reads q has) (sym c.are_whole.ensures ∙ c.if-are_whole.true) (column-length v.data_block (length l.places.items) sums long 0 c.requires.losses.some ∙ sym whole.whole))
+
+pub restore-returns-then-are_whole-clause-given : goal.restore-returns-then-are_whole-clause-given
+restore-returns-then-are_whole-clause-given g t c q has =
+    let config = c.args.config.now in
+    let v = c.args.verity.now in
+    let l = c.args.losses.now in
+    let sums = c.decode.new.sums in
+    let first : c.take_first.new.out ≡ column v.data_block sums 0 = c.take_first.ensures ∙ ap (λ (k : ℕ). take k sums) c.requires.size ∙ sym (column-first v.data_block sums) in
+    subst (λ (x : List ℕ). ReadsBy (DeviceDoes g.D.BlockDev.state g.D.BlockDev.does) config (restored_of (place_in v c.args.tree.now l.lost.index) q (record_of l) l.lost.digest) (served c.args.backing.now) (served c.decode.new.backing) (Ok x)) (sym first)
+    (restored-given (sym c.are_whole.ensures ∙ c.if-are_whole.true) (c.in-Ok.ensures.given q has))
+
+-- ---- the sums of the lost blocks
+
+pub decode-loop-place-init : goal.decode-loop-place-init
+decode-loop-place-init g t c =
+    let config = c.args.config.now in
+    let v = c.args.verity.now in
+    let tree = c.args.tree.now in
+    let l = c.args.losses.now in
+    let places = l.places.items in
+    let leaves = map g.D.BlockDev.state c.args.backing.now.devices.items in
+    let zeros : c.fill_zeros.new.out ≡ no_columns v.data_block places = c.fill_zeros.ensures ∙ ap (λ (n : ℕ). replicate n 0) c.requires.size in
+    record {
+      within = omega arith;
+      summed = λ q has. subst (λ (x : List ℕ). AreSummed (block_in config v l.lost.index) q places 0 x leaves leaves) (sym zeros) (sums-begin (block_in config v l.lost.index) q places leaves);
+      cached = record { capacity = refl; sound = c.requires.stack.cached };
+      touches = asks-none _ (leaves_of config (mapped tree.device.0)) leaves (Ok tt) tt refl;
+      given = λ q has. subst (λ (x : List ℕ). LeadsTo (DeviceDoes g.D.BlockDev.state g.D.BlockDev.does) config (columns_of (place_in v tree l.lost.index) q places 0 (no_columns v.data_block places)) (columns_of (place_in v tree l.lost.index) q places 0 x) (served c.args.backing.now) (served c.args.backing.now)) (sym zeros) (leads-begin (columns_of (place_in v tree l.lost.index) q places 0 (no_columns v.data_block places)));
+    }
+
+pub decode-returns-in-None-clause-reads : goal.decode-returns-in-None-clause-reads
+decode-returns-in-None-clause-reads g t c q has = let clash : None ≡ Some q = sym c.in-None.is ∙ has in absurd cc
+
+pub decode-returns-in-None-clause-given : goal.decode-returns-in-None-clause-given
+decode-returns-in-None-clause-given g t c q has = let clash : None ≡ Some q = sym c.in-None.is ∙ has in absurd cc
+
+pub decode-add_kept-requires : goal.decode-add_kept-requires
+decode-add_kept-requires g t c κs within =
+    let inv = c.loop-place.invariant in
+    let summed = inv.summed c.in-Some.parity c.in-Some.is in
+    (omega arith, (within, (stack-later c.args.config.now summed.moved.moved.fixed c.requires.stack inv.cached, (c.requires.block, (c.requires.losses, (omega (arith, c.loop-place-test.true), omega (arith, c.loop-place.auto.sums, c.fill_zeros.auto.out, c.requires.size)))))))
+
+pub decode-returns-in-Err-clause-reads : goal.decode-returns-in-Err-clause-reads
+decode-returns-in-Err-clause-reads g t c q has =
+    let config = c.args.config.now in
+    let v = c.args.verity.now in
+    let l = c.args.losses.now in
+    let round = is-round config v c.args.tree.now c.requires.stack.sound.loaded c.requires.block.lies l.lost.index c.requires.block.there q has in
+    let low = mend-inside v.parity c.in-Some.parity q c.loop-place.place c.in-Some.is has (omega (arith, c.loop-place-test.true)) in
+    sums-stop (block_in config v l.lost.index) q round.few l.places.items (c.loop-place.invariant.summed q has) c.in-Err.unread low (c.in-Err.ensures.reads q has low)
+
+pub decode-returns-in-Err-clause-touches : goal.decode-returns-in-Err-clause-touches
+decode-returns-in-Err-clause-touches g t c = asks-then c.loop-place.invariant.touches c.in-Err.ensures.touches
+
+pub decode-returns-in-Err-clause-given : goal.decode-returns-in-Err-clause-given
+decode-returns-in-Err-clause-given g t c q has =
+    let low = mend-inside c.args.verity.now.parity c.in-Some.parity q c.loop-place.place c.in-Some.is has (omega (arith, c.loop-place-test.true)) in
+    (c.loop-place.invariant.given q has).later (served c.add_kept.new.backing) (Err c.in-Err.unread) (c.in-Err.ensures.given q has low)
+
+pub decode-loop-place-preserved : goal.decode-loop-place-preserved
+decode-loop-place-preserved g t c =
+    let config = c.args.config.now in
+    let v = c.args.verity.now in
+    let tree = c.args.tree.now in
+    let l = c.args.losses.now in
+    let places = l.places.items in
+    let inv = c.loop-place.invariant in
+    let place : ℕ = c.loop-place.place in
+    let next : suc place ≡ place + 1 = omega arith in
+    let old = map g.D.BlockDev.state c.args.backing.now.devices.items in
+    let new = map g.D.BlockDev.state c.add_kept.new.backing.devices.items in
+    record {
+      within = omega (arith, c.loop-place-test.true);
+      summed = λ q has.
+          let round = is-round config v tree c.requires.stack.sound.loaded c.requires.block.lies l.lost.index c.requires.block.there q has in
+          let low = mend-inside v.parity c.in-Some.parity q place c.in-Some.is has (omega (arith, c.loop-place-test.true)) in
+          subst (λ (k : ℕ). AreSummed (block_in config v l.lost.index) q places k c.add_kept.new.sums old new) next (sums-more (block_in config v l.lost.index) q round.few places (inv.summed q has) (c.in-Ok.ensures.reads q has low));
+      cached = record { capacity = c.in-Ok.ensures.cached.capacity ∙ inv.cached.capacity; sound = c.in-Ok.ensures.cached.sound };
+      touches = asks-then inv.touches c.in-Ok.ensures.touches;
+      given = λ q has.
+          let low = mend-inside v.parity c.in-Some.parity q place c.in-Some.is has (omega (arith, c.loop-place-test.true)) in
+          subst (λ (k : ℕ). LeadsTo (DeviceDoes g.D.BlockDev.state g.D.BlockDev.does) config (columns_of (place_in v tree l.lost.index) q places 0 (no_columns v.data_block places)) (columns_of (place_in v tree l.lost.index) q places k c.add_kept.new.sums) (served c.args.backing.now) (served c.add_kept.new.backing)) next
+          (leads-then (inv.given q has) (c.in-Ok.ensures.given q has low));
+    }
+
+pub decode-add_columns-requires : goal.decode-add_columns-requires
+decode-add_columns-requires g t c κs within =
+    let inv = c.loop-place.invariant in
+    let summed = inv.summed c.in-Some.parity c.in-Some.is in
+    (omega arith, (within, (stack-later c.args.config.now summed.moved.moved.fixed c.requires.stack inv.cached, (c.requires.block, (c.requires.losses, omega (arith, c.loop-place.auto.sums, c.fill_zeros.auto.out, c.requires.size))))))
+
+pub decode-returns-clause-reads : goal.decode-returns-clause-reads
+decode-returns-clause-reads g t c q has =
+    let config = c.args.config.now in
+    let v = c.args.verity.now in
+    let l = c.args.losses.now in
+    let round = is-round config v c.args.tree.now c.requires.stack.sound.loaded c.requires.block.lies l.lost.index c.requires.block.there q has in
+    let all = same-roots v.parity c.in-Some.parity q c.in-Some.is has in
+    sums-end (block_in config v l.lost.index) q round.few l.places.items (c.loop-place.invariant.summed q has) (omega (arith, c.loop-place-test.false, c.loop-place.invariant.within, all)) (buffer_answer c.add_columns.result c.add_columns.new.sums) (c.add_columns.ensures.reads q has)
+
+pub decode-returns-clause-cached : goal.decode-returns-clause-cached
+decode-returns-clause-cached g t c = record { capacity = c.add_columns.ensures.cached.capacity ∙ c.loop-place.invariant.cached.capacity; sound = c.add_columns.ensures.cached.sound }
+
+pub decode-returns-clause-touches : goal.decode-returns-clause-touches
+decode-returns-clause-touches g t c = asks-then c.loop-place.invariant.touches c.add_columns.ensures.touches
+
+pub decode-returns-clause-given : goal.decode-returns-clause-given
+decode-returns-clause-given g t c q has =
+    let l = c.args.losses.now in
+    let place = place_in c.args.verity.now c.args.tree.now l.lost.index in
+    let all = same-roots c.args.verity.now.parity c.in-Some.parity q c.in-Some.is has in
+    let end : 255 - q.roots ≡ c.loop-place.place = omega (arith, c.loop-place-test.false, c.loop-place.invariant.within, all) in
+    let answer = buffer_answer c.add_columns.result c.add_columns.new.sums in
+    (c.loop-place.invariant.given q has).later (served c.add_columns.new.backing) answer
+    (subst (λ (k : ℕ). ReadsBy (DeviceDoes g.D.BlockDev.state g.D.BlockDev.does) c.args.config.now (columns_of place q l.places.items k c.loop-place.sums) (served c.loop-place.backing) (served c.add_columns.new.backing) answer) end (c.add_columns.ensures.given q has))
+
+-- ---- what is added to them
+
+pub add_kept-read_beneath-requires : goal.add_kept-read_beneath-requires
+add_kept-read_beneath-requires g t c κs within =
+    let config = c.args.config.now in
+    let v = c.args.verity.now in
+    let tree = c.args.tree.now in
+    let index : ℕ = c.args.at.0.now.lost.index in
+    let e = c.in-Some.extent in
+    let given = other-given (place_in v tree index) v.parity c.args.at.1 e (sym c.in-Some.ensures.is) in
+    let of = other-of config v tree c.requires.stack.sound.loaded c.requires.block.lies index given.0 c.args.at.1 e given.2 in
+    let lies = c.in-Some.ensures.lies in
+    let room : length c.as_mut_slice-all.result.now ≡ 4096 = ap (λ (l : List ℕ). length l) c.as_mut_slice-all.ensures.value in
+    let size : length (take (e.sectors * 512) c.as_mut_slice-all.result.now) ≡ e.sectors * 512 = omega (arith, room, lies.few, length-take (e.sectors * 512) c.as_mut_slice-all.result.now) in
+    let deep = of.2.deep in
+    (omega (arith, deep), (within, (c.requires.stack, (omega (arith, size), omega (arith, size, lies.inside)))))
+
+pub add_kept-add_block-requires-clause-places : goal.add_kept-add_block-requires-clause-places
+add_kept-add_block-requires-clause-places g t c k low =
+    let given = other-given (place_in c.args.verity.now c.args.tree.now c.args.at.0.now.lost.index) c.args.verity.now.parity c.args.at.1 c.in-Some.extent (sym c.in-Some.ensures.is) in
+    omega (arith, c.requires.losses.inside given.0 given.1 k low)
+
+pub add_kept-add_block-requires-clause-place : goal.add_kept-add_block-requires-clause-place
+add_kept-add_block-requires-clause-place g t c = c.requires.place
+
+pub add_kept-add_block-requires-clause-size : goal.add_kept-add_block-requires-clause-size
+add_kept-add_block-requires-clause-size g t c =
+    let config = c.args.config.now in
+    let v = c.args.verity.now in
+    let tree = c.args.tree.now in
+    let index : ℕ = c.args.at.0.now.lost.index in
+    let e = c.in-Some.extent in
+    let given = other-given (place_in v tree index) v.parity c.args.at.1 e (sym c.in-Some.ensures.is) in
+    let of = other-of config v tree c.requires.stack.sound.loaded c.requires.block.lies index given.0 c.args.at.1 e given.2 in
+    let lies = c.in-Some.ensures.lies in
+    let room : length c.as_mut_slice-all.result.now ≡ 4096 = ap (λ (l : List ℕ). length l) c.as_mut_slice-all.ensures.value in
+    let size : length (take (e.sectors * 512) c.as_mut_slice-all.result.now) ≡ e.sectors * 512 = omega (arith, room, lies.few, length-take (e.sectors * 512) c.as_mut_slice-all.result.now) in
+    let whole = data-whole config tree.device.0 tree.line v c.requires.stack.sound.loaded c.requires.block.lies.is in
+    let one : v.data_block ≡ length c.read_beneath.new.out = omega (arith, c.read_beneath.auto.out, size, of.1, whole.whole) in
+    c.requires.size ∙ ap (λ (n : ℕ). length c.args.at.0.now.places.items * n) one
+
+pub add_kept-returns-then-has-clause-reads : goal.add_kept-returns-then-has-clause-reads
+add_kept-returns-then-has-clause-reads g t c q has low =
+    let l = c.args.at.0.now in
+    kept-lost c.args.config.now c.args.verity.now c.args.tree.now c.requires.stack.sound.loaded c.requires.block.lies l.lost.index q l.places.items c.args.at.1 c.args.sums.now (map g.D.BlockDev.state c.args.backing.now.devices.items) (sym c.has.ensures ∙ c.if-has.true)
+
+pub add_kept-returns-then-has-clause-given : goal.add_kept-returns-then-has-clause-given
+add_kept-returns-then-has-clause-given g t c q has low = column-past low (inl (sym c.has.ensures ∙ c.if-has.true))
+
+pub add_kept-returns-in-None-clause-reads : goal.add_kept-returns-in-None-clause-reads
+add_kept-returns-in-None-clause-reads g t c q has low =
+    let l = c.args.at.0.now in
+    let v = c.args.verity.now in
+    let kept : is_among l.places.items c.args.at.1 ≡ false = sym c.has.ensures ∙ c.if-has.false in
+    let none : other_at (place_in v c.args.tree.now l.lost.index) q c.args.at.1 ≡ None = sym (c.in-None.ensures.is ∙ ap (λ (o : Option Parity). other_by (place_in v c.args.tree.now l.lost.index) o c.args.at.1) has) in
+    kept-none c.args.config.now v c.args.tree.now c.requires.stack.sound.loaded c.requires.block.lies l.lost.index q l.places.items c.args.at.1 c.args.sums.now kept (kept-apart v q l.lost.index (record_of l) c.args.at.1 c.requires.losses has kept) (map g.D.BlockDev.state c.args.backing.now.devices.items) none
+
+pub add_kept-returns-in-None-clause-given : goal.add_kept-returns-in-None-clause-given
+add_kept-returns-in-None-clause-given g t c q has low =
+    let l = c.args.at.0.now in
+    let v = c.args.verity.now in
+    column-past low (inr (sym (c.in-None.ensures.is ∙ ap (λ (o : Option Parity). other_by (place_in v c.args.tree.now l.lost.index) o c.args.at.1) has)))
+
+pub add_kept-returns-in-Err-clause-reads : goal.add_kept-returns-in-Err-clause-reads
+add_kept-returns-in-Err-clause-reads g t c q has low =
+    let l = c.args.at.0.now in
+    let v = c.args.verity.now in
+    let e = c.in-Some.extent in
+    let kept : is_among l.places.items c.args.at.1 ≡ false = sym c.has.ensures ∙ c.if-has.false in
+    let at : other_at (place_in v c.args.tree.now l.lost.index) q c.args.at.1 ≡ Some e = sym (c.in-Some.ensures.is ∙ ap (λ (o : Option Parity). other_by (place_in v c.args.tree.now l.lost.index) o c.args.at.1) has) in
+    let count = room_sectors c.as_mut_slice-all.result.now e.sectors (ap (λ (l : List ℕ). length l) c.as_mut_slice-all.ensures.value) c.in-Some.ensures.few in
+    kept-unread c.args.config.now v c.args.tree.now c.requires.stack.sound.loaded c.requires.block.lies l.lost.index q l.places.items c.args.at.1 c.args.sums.now kept (kept-apart v q l.lost.index (record_of l) c.args.at.1 c.requires.losses has kept) e at _ count c.in-Err.fault c.in-Err.ensures.reads
+
+pub add_kept-returns-in-Ok-clause-reads : goal.add_kept-returns-in-Ok-clause-reads
+add_kept-returns-in-Ok-clause-reads g t c q has low =
+    let config = c.args.config.now in
+    let l = c.args.at.0.now in
+    let v = c.args.verity.now in
+    let tree = c.args.tree.now in
+    let e = c.in-Some.extent in
+    let kept : is_among l.places.items c.args.at.1 ≡ false = sym c.has.ensures ∙ c.if-has.false in
+    let at : other_at (place_in v tree l.lost.index) q c.args.at.1 ≡ Some e = sym (c.in-Some.ensures.is ∙ ap (λ (o : Option Parity). other_by (place_in v tree l.lost.index) o c.args.at.1) has) in
+    let count = room_sectors c.as_mut_slice-all.result.now e.sectors (ap (λ (l : List ℕ). length l) c.as_mut_slice-all.ensures.value) c.in-Some.ensures.few in
+    let room : length c.as_mut_slice-all.result.now ≡ 4096 = ap (λ (l : List ℕ). length l) c.as_mut_slice-all.ensures.value in
+    let of = other-of config v tree c.requires.stack.sound.loaded c.requires.block.lies l.lost.index q c.args.at.1 e at in
+    let whole = data-whole config tree.device.0 tree.line v c.requires.stack.sound.loaded c.requires.block.lies.is in
+    let one : length c.read_beneath.new.out ≡ v.data_block = omega (arith, c.read_beneath.auto.out, room, length-take (e.sectors * 512) c.as_mut_slice-all.result.now, c.in-Some.ensures.few, of.1, whole.whole) in
+    let made : c.add_block.new.sums ≡ added_columns v.data_block l.places.items c.args.at.1 c.read_beneath.new.out c.args.sums.now = c.add_block.ensures ∙ ap (λ (n : ℕ). added_columns n l.places.items c.args.at.1 c.read_beneath.new.out c.args.sums.now) one in
+    subst (λ (x : List ℕ). Gets (kept_wanted (block_in config v l.lost.index) q l.places.items c.args.at.1 c.args.sums.now) (map g.D.BlockDev.state c.args.backing.now.devices.items) (map g.D.BlockDev.state c.read_beneath.new.backing.devices.items) (Ok x)) (sym made)
+    (kept-read config v tree c.requires.stack.sound.loaded c.requires.block.lies l.lost.index q l.places.items c.args.at.1 c.args.sums.now kept (kept-apart v q l.lost.index (record_of l) c.args.at.1 c.requires.losses has kept) e at _ count c.in-Ok.ensures.reads)
+
+pub add_kept-returns-in-Err-clause-touches : goal.add_kept-returns-in-Err-clause-touches
+add_kept-returns-in-Err-clause-touches g t c =
+    let v = c.args.verity.now in
+    let tree = c.args.tree.now in
+    let index : ℕ = c.args.at.0.now.lost.index in
+    let given = other-given (place_in v tree index) v.parity c.args.at.1 c.in-Some.extent (sym c.in-Some.ensures.is) in
+    asks-up (other-of c.args.config.now v tree c.requires.stack.sound.loaded c.requires.block.lies index given.0 c.args.at.1 c.in-Some.extent given.2).2.within c.in-Err.ensures.touches
+
+pub add_kept-returns-in-Ok-clause-touches : goal.add_kept-returns-in-Ok-clause-touches
+add_kept-returns-in-Ok-clause-touches g t c =
+    let v = c.args.verity.now in
+    let tree = c.args.tree.now in
+    let index : ℕ = c.args.at.0.now.lost.index in
+    let given = other-given (place_in v tree index) v.parity c.args.at.1 c.in-Some.extent (sym c.in-Some.ensures.is) in
+    asks-up (other-of c.args.config.now v tree c.requires.stack.sound.loaded c.requires.block.lies index given.0 c.args.at.1 c.in-Some.extent given.2).2.within c.in-Ok.ensures.touches
+
+pub add_kept-returns-in-Err-clause-given : goal.add_kept-returns-in-Err-clause-given
+add_kept-returns-in-Err-clause-given g t c q has low =
+    let l = c.args.at.0.now in
+    let e = c.in-Some.extent in
+    let kept : is_among l.places.items c.args.at.1 ≡ false = sym c.has.ensures ∙ c.if-has.false in
+    let at : other_at (place_in c.args.verity.now c.args.tree.now l.lost.index) q c.args.at.1 ≡ Some e = sym (c.in-Some.ensures.is ∙ ap (λ (o : Option Parity). other_by (place_in c.args.verity.now c.args.tree.now l.lost.index) o c.args.at.1) has) in
+    let count = room_sectors c.as_mut_slice-all.result.now e.sectors (ap (λ (l : List ℕ). length l) c.as_mut_slice-all.ensures.value) c.in-Some.ensures.few in
+    column-lost c.args.sums.now e low kept at count (c.in-Err.ensures.given.some (omega (arith, count, c.in-Some.ensures.lies.some)))
+
+pub add_kept-returns-in-Ok-clause-given : goal.add_kept-returns-in-Ok-clause-given
+add_kept-returns-in-Ok-clause-given g t c q has low =
+    let config = c.args.config.now in
+    let l = c.args.at.0.now in
+    let v = c.args.verity.now in
+    let tree = c.args.tree.now in
+    let i : ℕ = c.args.at.1 in
+    let e = c.in-Some.extent in
+    let kept : is_among l.places.items i ≡ false = sym c.has.ensures ∙ c.if-has.false in
+    let at : other_at (place_in v tree l.lost.index) q i ≡ Some e = sym (c.in-Some.ensures.is ∙ ap (λ (o : Option Parity). other_by (place_in v tree l.lost.index) o i) has) in
+    let count = room_sectors c.as_mut_slice-all.result.now e.sectors (ap (λ (l : List ℕ). length l) c.as_mut_slice-all.ensures.value) c.in-Some.ensures.few in
+    let room : length c.as_mut_slice-all.result.now ≡ 4096 = ap (λ (l : List ℕ). length l) c.as_mut_slice-all.ensures.value in
+    let of = other-of config v tree c.requires.stack.sound.loaded c.requires.block.lies l.lost.index q i e at in
+    let whole = data-whole config tree.device.0 tree.line v c.requires.stack.sound.loaded c.requires.block.lies.is in
+    let one : length c.read_beneath.new.out ≡ v.data_block = omega (arith, c.read_beneath.auto.out, room, length-take (e.sectors * 512) c.as_mut_slice-all.result.now, c.in-Some.ensures.few, of.1, whole.whole) in
+    let made : c.add_block.new.sums ≡ added_columns v.data_block l.places.items i c.read_beneath.new.out c.args.sums.now = c.add_block.ensures ∙ ap (λ (n : ℕ). added_columns n l.places.items i c.read_beneath.new.out c.args.sums.now) one in
+    subst (λ (x : List ℕ). LeadsTo (DeviceDoes g.D.BlockDev.state g.D.BlockDev.does) config (columns_of (place_in v tree l.lost.index) q l.places.items i c.args.sums.now) (columns_of (place_in v tree l.lost.index) q l.places.items (suc i) x) (served c.args.backing.now) (served c.read_beneath.new.backing)) (sym made)
+    (column-added e low kept at count (c.in-Ok.ensures.given.some (omega (arith, count, c.in-Some.ensures.lies.some))))
+
+-- ---- the parity of a round, for all lost blocks
+
+-- how many bytes it has for each of a block
+columns-count : (c : Configuration) (v : Verity) (tree : Tree) (q : Parity) (out all : List ℕ) (at : Stored) → IsLoaded c → IsTreeOf c v tree → at.sectors ≡ block_sectors v * q.roots → length out ≡ length (take (at.sectors * 512) all) → length all ≡ 98304 → at.sectors ≤ 192
+    → (length out / v.data_block ≡ q.roots) × (length out ≡ v.data_block * q.roots)
+columns-count c v tree q out all at loaded lies sectors long room few =
+    let whole = data-whole c tree.device.0 tree.line v loaded lies.is in
+    let len : length out ≡ block_sectors v * q.roots * 512 = omega (arith, long, room, few, sectors, length-take (at.sectors * 512) all) in
+    let parts = stored-count (block_sectors v) q.roots v.data_block (length out) whole.whole (omega (arith, whole.whole, whole.some)) len in
+    let swap : block_sectors v * q.roots * 512 ≡ 512 * block_sectors v * q.roots = grind arith in
+    (parts.1, len ∙ swap ∙ ap (λ (n : ℕ). n * q.roots) whole.whole)
+
+pub add_columns-read_beneath-requires : goal.add_columns-read_beneath-requires
+add_columns-read_beneath-requires g t c κs within =
+    let at = c.in-Some.stored in
+    let is = c.in-Some.ensures.is in
+    let room : length c.as_mut_slice-all.result.now ≡ 98304 = ap (λ (l : List ℕ). length l) c.as_mut_slice-all.ensures.value in
+    let size : length (take (at.sectors * 512) c.as_mut_slice-all.result.now) ≡ at.sectors * 512 = omega (arith, room, c.in-Some.ensures.few, length-take (at.sectors * 512) c.as_mut_slice-all.result.now) in
+    let deep = (parity-of c.args.config.now c.args.verity.now c.args.tree.now c.requires.stack.sound.loaded c.requires.block.lies c.args.losses.now.lost.index at.lower is.2.on).deep in
+    (omega (arith, deep), (within, (c.requires.stack, (omega (arith, size), omega (arith, size, is.2.inside)))))
+
+pub add_columns-add_parity-requires-clause-places : goal.add_columns-add_parity-requires-clause-places
+add_columns-add_parity-requires-clause-places g t c k low = omega (arith, c.requires.losses.inside c.in-Some.ensures.is.0 c.in-Some.ensures.is.1 k low)
+
+pub add_columns-add_parity-requires-clause-roots : goal.add_columns-add_parity-requires-clause-roots
+add_columns-add_parity-requires-clause-roots g t c =
+    let v = c.args.verity.now in
+    let is = c.in-Some.ensures.is in
+    let q = is.0 in
+    let room = ap (λ (l : List ℕ). length l) c.as_mut_slice-all.ensures.value in
+    let count = columns-count c.args.config.now v c.args.tree.now q c.read_beneath.new.out c.as_mut_slice-all.result.now c.in-Some.stored c.requires.stack.sound.loaded c.requires.block.lies is.2.sectors c.read_beneath.auto.out room c.in-Some.ensures.few in
+    let round = is-round c.args.config.now v c.args.tree.now c.requires.stack.sound.loaded c.requires.block.lies c.args.losses.now.lost.index c.requires.block.there q is.1 in
+    let roots : length c.read_beneath.new.out / v.data_block ≡ q.roots = count.0 in
+    let zero_rest : length c.read_beneath.new.out % (length c.read_beneath.new.out / v.data_block) ≡ 0 = ap (λ (n : ℕ). length c.read_beneath.new.out % n) roots ∙ ap (λ (n : ℕ). n % q.roots) count.1 ∙ mul-mod_left v.data_block q.roots in
+    (omega (arith, roots, round.some), (omega (arith, roots, round.few), zero_rest))
+
+pub add_columns-add_parity-requires-clause-size : goal.add_columns-add_parity-requires-clause-size
+add_columns-add_parity-requires-clause-size g t c =
+    let v = c.args.verity.now in
+    let is = c.in-Some.ensures.is in
+    let q = is.0 in
+    let room = ap (λ (l : List ℕ). length l) c.as_mut_slice-all.ensures.value in
+    let count = columns-count c.args.config.now v c.args.tree.now q c.read_beneath.new.out c.as_mut_slice-all.result.now c.in-Some.stored c.requires.stack.sound.loaded c.requires.block.lies is.2.sectors c.read_beneath.auto.out room c.in-Some.ensures.few in
+    let round = is-round c.args.config.now v c.args.tree.now c.requires.stack.sound.loaded c.requires.block.lies c.args.losses.now.lost.index c.requires.block.there q is.1 in
+    let back : length c.read_beneath.new.out / (length c.read_beneath.new.out / v.data_block) ≡ v.data_block = ap (λ (n : ℕ). length c.read_beneath.new.out / n) count.0 ∙ ap (λ (n : ℕ). n / q.roots) count.1 ∙ mul-div_cancel v.data_block (omega (arith, round.some)) in
+    c.requires.size ∙ ap (λ (n : ℕ). length c.args.losses.now.places.items * n) (sym back)
+
+pub add_columns-returns-in-None-clause-reads : goal.add_columns-returns-in-None-clause-reads
+add_columns-returns-in-None-clause-reads g t c q has = let clash : false ≡ true = c.in-None.ensures.some q has in absurd cc
+
+pub add_columns-returns-in-None-clause-given : goal.add_columns-returns-in-None-clause-given
+add_columns-returns-in-None-clause-given g t c q has = let clash : false ≡ true = c.in-None.ensures.some q has in absurd cc
+
+pub add_columns-returns-in-Err-clause-reads : goal.add_columns-returns-in-Err-clause-reads
+add_columns-returns-in-Err-clause-reads g t c q has =
+    let v = c.args.verity.now in
+    let l = c.args.losses.now in
+    let at = c.in-Some.stored in
+    let stored = stored-as c.args.config.now (place_in v c.args.tree.now l.lost.index) v.parity q at c.in-Some.ensures.is has in
+    let count = stored-room c.as_mut_slice-all.result.now at.sectors (ap (λ (l : List ℕ). length l) c.as_mut_slice-all.ensures.value) c.in-Some.ensures.few in
+    columns-unread c.args.config.now v c.args.tree.now c.requires.stack.sound.loaded c.requires.block.lies l.lost.index q l.places.items c.args.sums.now at stored _ count c.in-Err.fault c.in-Err.ensures.reads
+
+-- the sums, as the line's parity has them
+columns-made : (c : Configuration) (v : Verity) (tree : Tree) (q : Parity) (places sums out made all : List ℕ) (at : Stored) (roots : ℕ) → IsLoaded c → IsTreeOf c v tree → 0 < q.roots → roots ≡ length out / v.data_block → at.sectors ≡ block_sectors v * q.roots → length out ≡ length (take (at.sectors * 512) all) → length all ≡ 98304 → at.sectors ≤ 192
+    → made ≡ added_parity places roots (length out / roots) out sums → made ≡ added_parity places q.roots v.data_block out sums
+columns-made c v tree q places sums out made all at roots loaded lies some is sectors long room few made_is =
+    let count = columns-count c v tree q out all at loaded lies sectors long room few in
+    let same : roots ≡ q.roots = is ∙ count.0 in
+    let size : length out / q.roots ≡ v.data_block = ap (λ (n : ℕ). n / q.roots) count.1 ∙ mul-div_cancel v.data_block some in
+    made_is ∙ ap (λ (n : ℕ). added_parity places n (length out / n) out sums) same ∙ ap (λ (n : ℕ). added_parity places q.roots n out sums) size
+
+pub add_columns-returns-in-Ok-clause-reads : goal.add_columns-returns-in-Ok-clause-reads
+add_columns-returns-in-Ok-clause-reads g t c q has =
+    let config = c.args.config.now in
+    let v = c.args.verity.now in
+    let tree = c.args.tree.now in
+    let l = c.args.losses.now in
+    let at = c.in-Some.stored in
+    let loaded = c.requires.stack.sound.loaded in
+    let stored = stored-as config (place_in v tree l.lost.index) v.parity q at c.in-Some.ensures.is has in
+    let room = ap (λ (l : List ℕ). length l) c.as_mut_slice-all.ensures.value in
+    let count = stored-room c.as_mut_slice-all.result.now at.sectors room c.in-Some.ensures.few in
+    let round = is-round config v tree loaded c.requires.block.lies l.lost.index c.requires.block.there q has in
+    let made = columns-made config v tree q l.places.items c.args.sums.now c.read_beneath.new.out c.add_parity.new.sums c.as_mut_slice-all.result.now at _ loaded c.requires.block.lies (omega (arith, round.some)) refl stored.sectors c.read_beneath.auto.out room c.in-Some.ensures.few c.add_parity.ensures in
+    subst (λ (x : List ℕ). Gets (columns_wanted (block_in config v l.lost.index) q l.places.items c.args.sums.now) (map g.D.BlockDev.state c.args.backing.now.devices.items) (map g.D.BlockDev.state c.read_beneath.new.backing.devices.items) (Ok x)) (sym made)
+    (columns-read config v tree loaded c.requires.block.lies l.lost.index q l.places.items c.args.sums.now at stored _ count c.in-Ok.ensures.reads)
+
+pub add_columns-returns-in-Err-clause-touches : goal.add_columns-returns-in-Err-clause-touches
+add_columns-returns-in-Err-clause-touches g t c = asks-up (parity-of c.args.config.now c.args.verity.now c.args.tree.now c.requires.stack.sound.loaded c.requires.block.lies c.args.losses.now.lost.index c.in-Some.stored.lower c.in-Some.ensures.is.2.on).within c.in-Err.ensures.touches
+
+pub add_columns-returns-in-Ok-clause-touches : goal.add_columns-returns-in-Ok-clause-touches
+add_columns-returns-in-Ok-clause-touches g t c = asks-up (parity-of c.args.config.now c.args.verity.now c.args.tree.now c.requires.stack.sound.loaded c.requires.block.lies c.args.losses.now.lost.index c.in-Some.stored.lower c.in-Some.ensures.is.2.on).within c.in-Ok.ensures.touches
+
+pub add_columns-returns-in-Err-clause-given : goal.add_columns-returns-in-Err-clause-given
+add_columns-returns-in-Err-clause-given g t c q has =
+    let config = c.args.config.now in
+    let v = c.args.verity.now in
+    let tree = c.args.tree.now in
+    let l = c.args.losses.now in
+    let loaded = c.requires.stack.sound.loaded in
+    let at = c.in-Some.stored in
+    let stored = stored-as config (place_in v tree l.lost.index) v.parity q at c.in-Some.ensures.is has in
+    let room = ap (λ (l : List ℕ). length l) c.as_mut_slice-all.ensures.value in
+    let count = stored-room c.as_mut_slice-all.result.now at.sectors room c.in-Some.ensures.few in
+    let round = is-round config v tree loaded c.requires.block.lies l.lost.index c.requires.block.there q has in
+    columns-lost l.places.items c.args.sums.now at stored count (c.in-Err.ensures.given.some (stored-some config v tree q c.as_mut_slice-all.result.now at loaded c.requires.block.lies round.some stored.sectors room c.in-Some.ensures.few))
+
+pub add_columns-returns-in-Ok-clause-given : goal.add_columns-returns-in-Ok-clause-given
+add_columns-returns-in-Ok-clause-given g t c q has =
+    let config = c.args.config.now in
+    let v = c.args.verity.now in
+    let tree = c.args.tree.now in
+    let l = c.args.losses.now in
+    let loaded = c.requires.stack.sound.loaded in
+    let place = place_in v tree l.lost.index in
+    let at = c.in-Some.stored in
+    let stored = stored-as config place v.parity q at c.in-Some.ensures.is has in
+    let room = ap (λ (l : List ℕ). length l) c.as_mut_slice-all.ensures.value in
+    let count = stored-room c.as_mut_slice-all.result.now at.sectors room c.in-Some.ensures.few in
+    let round = is-round config v tree loaded c.requires.block.lies l.lost.index c.requires.block.there q has in
+    let made = columns-made config v tree q l.places.items c.args.sums.now c.read_beneath.new.out c.add_parity.new.sums c.as_mut_slice-all.result.now at _ loaded c.requires.block.lies (omega (arith, round.some)) refl stored.sectors c.read_beneath.auto.out room c.in-Some.ensures.few c.add_parity.ensures in
+    subst (λ (x : List ℕ). ReadsBy (DeviceDoes g.D.BlockDev.state g.D.BlockDev.does) config (columns_of place q l.places.items (255 - q.roots) c.args.sums.now) (served c.args.backing.now) (served c.read_beneath.new.backing) (Ok x)) (sym made)
+    (columns-given l.places.items c.args.sums.now at stored count (c.in-Ok.ensures.given.some (stored-some config v tree q c.as_mut_slice-all.result.now at loaded c.requires.block.lies round.some stored.sectors room c.in-Some.ensures.few)))
+
+-- ---- the spare of a block
+
+pub mend-mend_only-requires : goal.mend-mend_only-requires
+mend-mend_only-requires g t c κs within = (omega arith, (within, (c.requires.stack, (c.requires.block, c.requires.size))))
+
+pub mend-returns-in-Ok-clause-reads : goal.mend-returns-in-Ok-clause-reads
+mend-returns-in-Ok-clause-reads g t c = spare-only (block_in c.args.config.now c.args.verity.now c.args.lost.now.index) c.args.lost.now.digest c.mend_only.new.out c.in-Ok.ensures.reads
+
+pub mend-returns-in-Ok-clause-given : goal.mend-returns-in-Ok-clause-given
+mend-returns-in-Ok-clause-given g t c = spare-alone tt c.in-Ok.ensures.given
+
+pub mend-returns-else-can_heal-clause-reads : goal.mend-returns-else-can_heal-clause-reads
+mend-returns-else-can_heal-clause-reads g t c = spare-settled (block_in c.args.config.now c.args.verity.now c.args.lost.now.index) c.args.lost.now.digest c.in-Err.alone (sym c.can_heal.ensures ∙ c.if-can_heal.false) c.in-Err.ensures.reads
+
+pub mend-returns-else-can_heal-clause-given : goal.mend-returns-else-can_heal-clause-given
+mend-returns-else-can_heal-clause-given g t c = spare-alone (sym c.can_heal.ensures ∙ c.if-can_heal.false) c.in-Err.ensures.given
+
+pub mend-mend_erased-requires : goal.mend-mend_erased-requires
+mend-mend_erased-requires g t c κs within =
+    (omega arith, (within, (stack-later c.args.config.now c.in-Err.ensures.reads.moved.moved.fixed c.requires.stack c.in-Err.ensures.cached, (c.requires.block, c.mend_only.auto.out ∙ c.requires.size))))
+
+pub mend-returns-in-Ok-mend_erased-clause-reads : goal.mend-returns-in-Ok-mend_erased-clause-reads
+mend-returns-in-Ok-mend_erased-clause-reads g t c =
+    spare-mended (block_in c.args.config.now c.args.verity.now c.args.lost.now.index) c.args.lost.now.digest c.requires.block.there c.in-Err.alone (Ok c.mend_erased.new.out) (sym c.can_heal.ensures ∙ c.if-can_heal.true) c.in-Err.ensures.reads c.in-Ok-mend_erased.ensures.reads
+
+pub mend-returns-in-Ok-mend_erased-clause-given : goal.mend-returns-in-Ok-mend_erased-clause-given
+mend-returns-in-Ok-mend_erased-clause-given g t c = spare-by_erasures c.in-Err.alone (sym c.can_heal.ensures ∙ c.if-can_heal.true) c.in-Err.ensures.given c.in-Ok-mend_erased.ensures.given
+
+pub mend-returns-in-Ok-mend_erased-clause-cached : goal.mend-returns-in-Ok-mend_erased-clause-cached
+mend-returns-in-Ok-mend_erased-clause-cached g t c = record { capacity = c.in-Ok-mend_erased.ensures.cached.capacity ∙ c.in-Err.ensures.cached.capacity; sound = c.in-Ok-mend_erased.ensures.cached.sound }
+
+pub mend-returns-in-Ok-mend_erased-clause-touches : goal.mend-returns-in-Ok-mend_erased-clause-touches
+mend-returns-in-Ok-mend_erased-clause-touches g t c =
+    asks-healed c.args.verity.now.parity c.in-Err.alone (sym c.can_heal.ensures ∙ c.if-can_heal.true) (λ none. none c.args.tree.now.device.0 c.args.tree.now.line c.args.verity.now c.requires.block.lies.is) c.in-Err.ensures.touches c.in-Ok-mend_erased.ensures.touches
+
+pub mend-returns-in-Err-mend_erased-clause-reads : goal.mend-returns-in-Err-mend_erased-clause-reads
+mend-returns-in-Err-mend_erased-clause-reads g t c =
+    subst (λ (e : IoFault). Gets (spare_wanted c.args.config.now c.args.verity.now c.args.lost.now) (map g.D.BlockDev.state c.args.backing.now.devices.items) (map g.D.BlockDev.state c.mend_erased.new.backing.devices.items) (Err e)) (sym c.unhealed.ensures)
+    (spare-mended (block_in c.args.config.now c.args.verity.now c.args.lost.now.index) c.args.lost.now.digest c.requires.block.there c.in-Err.alone (Err c.in-Err-mend_erased.vain) (sym c.can_heal.ensures ∙ c.if-can_heal.true) c.in-Err.ensures.reads c.in-Err-mend_erased.ensures.reads)
+
+pub mend-returns-in-Err-mend_erased-clause-given : goal.mend-returns-in-Err-mend_erased-clause-given
+mend-returns-in-Err-mend_erased-clause-given g t c =
+    subst (λ (e : IoFault). ReadsBy (DeviceDoes g.D.BlockDev.state g.D.BlockDev.does) c.args.config.now (spare_of (place_in c.args.verity.now c.args.tree.now c.args.lost.now.index) c.args.lost.now.digest) (served c.args.backing.now) (served c.mend_erased.new.backing) (Err e)) (sym c.unhealed.ensures)
+    (spare-by_erasures c.in-Err.alone (sym c.can_heal.ensures ∙ c.if-can_heal.true) c.in-Err.ensures.given c.in-Err-mend_erased.ensures.given)
+
+pub mend-returns-in-Err-mend_erased-clause-cached : goal.mend-returns-in-Err-mend_erased-clause-cached
+mend-returns-in-Err-mend_erased-clause-cached g t c = record { capacity = c.in-Err-mend_erased.ensures.cached.capacity ∙ c.in-Err.ensures.cached.capacity; sound = c.in-Err-mend_erased.ensures.cached.sound }
+
+pub mend-returns-in-Err-mend_erased-clause-touches : goal.mend-returns-in-Err-mend_erased-clause-touches
+mend-returns-in-Err-mend_erased-clause-touches g t c =
+    let v = c.args.verity.now in
+    let these = leaves_of c.args.config.now (mapped c.args.tree.now.device.0) in
+    let heals = sym c.can_heal.ensures ∙ c.if-can_heal.true in
+    asks-both v.parity (Err c.unhealed.result) (heals-some v.parity c.in-Err.alone heals) (λ none. none c.args.tree.now.device.0 c.args.tree.now.line v c.requires.block.lies.is)
+    (subst (λ (e : IoFault). NamesOneOf these e) (sym c.unhealed.ensures) (unhealed-named these c.in-Err.alone c.in-Err-mend_erased.vain c.in-Err.ensures.touches.fault c.in-Err-mend_erased.ensures.touches.fault)) c.in-Err.ensures.touches c.in-Err-mend_erased.ensures.touches
 
 -- ---- healing
 
