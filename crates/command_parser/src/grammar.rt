@@ -10,7 +10,7 @@ ghost use Rattle.command_parser.specs.Grammar.{command_app, command_text, gramma
 ghost use Rattle.command_parser.specs.Memory.{IsMemoryEnd};
 
 use crate::option_rows::OptionRow;
-use crate::rows::{COMMANDS, CommandRow};
+use crate::rows::{CommandRow, command_rows};
 use crate::unread::unread_argument;
 use clap::error::ErrorKind;
 use clap::{Arg, ArgAction, ArgMatches, Command};
@@ -44,7 +44,7 @@ pub fn matches_of<'a>(alloc: Global, words: &'a [String]) -> Result<ArgMatches<'
 fn all_commands<'a>(alloc: Global) -> Result<Command<'a>, AllocError>
     ensures { IfOk result (λ c. app_of c ≡ grammar) }
 {
-    with_commands(alloc, program(alloc), &COMMANDS)
+    with_commands(alloc, program(alloc), command_rows())
 }
 
 // A command is wanted, and there is no help.

@@ -1,4 +1,8 @@
 //! The commands with their options, a row each.
+ghost use Rattle.std.specs.Prelude.{◌≡◌, map};
+ghost use Rattle.command_parser.specs.Commands.{commands};
+ghost use Rattle.command_parser.specs.Grammar.{command_text};
+
 use crate::option_rows::{
     ALL, ARCH, BLOCKS, CACHE, CHART, CHECK, COUNT, DATA_BLOCK, DIFFERING, DISK, DRAW_FROM, FEC,
     FEC_ROOTS, FIRST, GROW, HASH_BLOCK, HASH_OFFSET, JSON, LINUX, MAP, NAME, NO_INDEX, NO_SCRAPE,
@@ -14,8 +18,14 @@ pub struct CommandRow {
     pub options: &'static [OptionRow],
 }
 
-/// All commands.
-pub static COMMANDS: [CommandRow; 21] = [
+/// Returns all commands. Each other function that named their list would evaluate it in its proof.
+pub fn command_rows() -> &'static [CommandRow]
+    ensures { map command_text result.now ≡ commands }
+{
+    &COMMANDS
+}
+
+static COMMANDS: [CommandRow; 21] = [
     CommandRow {
         name: "format",
         options: &[

@@ -8,7 +8,7 @@ ghost use Rattle.command_parser.specs.Unread.{command_named, ends_options, is_re
 
 use crate::option_names::{gives_value, option_of};
 use crate::option_rows::OptionRow;
-use crate::rows::{COMMANDS, CommandRow};
+use crate::rows::{CommandRow, command_rows};
 use command_line::{Cause, Misuse, is_option};
 
 /// The first option that the command doesn't have, whose value is missing or that takes none, or one that is given twice. No
@@ -40,7 +40,7 @@ fn command_misuse<'a>(name: &[u8], words: &'a [String]) -> Option<Misuse<'a>>
 fn command_named(name: &[u8]) -> Option<&'static CommandRow>
     ensures { option_map command_text (option_copied result) ≡ command_named name.now }
 {
-    command_in(&COMMANDS, name)
+    command_in(command_rows(), name)
 }
 
 // The command of that name among these.
