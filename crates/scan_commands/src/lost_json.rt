@@ -1,5 +1,5 @@
 //! The lost sectors of a device as one JSON object.
-ghost use Rattle.std.specs.Prelude.{◌≡◌, string_bytes, IfOk};
+ghost use Rattle.std.specs.Prelude.{◌≡◌, ◌≢◌, string_bytes, IfOk};
 ghost use Rattle.program_io.specs.JsonLines.{json_line};
 ghost use Rattle.serde_json.specs.Data.{array};
 ghost use Rattle.serde_json.specs.View.{items_of, view};
@@ -33,18 +33,45 @@ fn lost_value(alloc: Global, runs: &[LostRun], counts: PassCounts) -> Result<Val
     ensures { IfOk result (λ value. view value ≡ lost_json runs.now counts) }
 {
     let PassCounts { sectors, restored } = counts;
+    if restored == 0 {
+        scanned_value(alloc, runs, sectors)
+    } else {
+        restored_value(alloc, runs, sectors, restored)
+    }
+}
+
+// Returns the object if no block was restored.
+fn scanned_value(alloc: Global, runs: &[LostRun], sectors: Counts) -> Result<Value, AllocError>
+    ensures { IfOk result (λ value. view value ≡ lost_json runs.now (record { sectors = sectors; restored = 0 })) }
+{
     let Counts {
         read,
         lost,
         untried,
     } = sectors;
     let runs = runs_value(alloc, runs)?;
-    if restored == 0 {
-        if untried == 0 {
-            return json!(in alloc; {"lost": lost, "read": read, "runs": runs});
-        }
-        return json!(in alloc; {"lost": lost, "read": read, "runs": runs, "untried": untried});
+    if untried == 0 {
+        return json!(in alloc; {"lost": lost, "read": read, "runs": runs});
     }
+    json!(in alloc; {"lost": lost, "read": read, "runs": runs, "untried": untried})
+}
+
+// Returns the object if blocks were restored.
+fn restored_value(
+    alloc: Global,
+    runs: &[LostRun],
+    sectors: Counts,
+    restored: u64,
+) -> Result<Value, AllocError>
+    requires { restored ≢ 0 }
+    ensures { IfOk result (λ value. view value ≡ lost_json runs.now (record { sectors = sectors; restored = restored })) }
+{
+    let Counts {
+        read,
+        lost,
+        untried,
+    } = sectors;
+    let runs = runs_value(alloc, runs)?;
     if untried == 0 {
         return json!(in alloc; {"lost": lost, "read": read, "restored": restored, "runs": runs});
     }
