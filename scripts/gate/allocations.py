@@ -27,6 +27,8 @@ PARSER = "`clap`'s table of commands grows within that crate; `command_parser` m
 CACHE = "kept blocks grow within `lru`, which makes no evidence; a block that isn't kept is read again, so no call fails"
 VALUES = "JSON values and their texts grow within `serde_json`, which makes no evidence"
 
+TESTED = "images of tests"
+
 EXAMPLE = "an example for users of the library, whose errors are `anyhow`'s"
 
 # Of each crate how many places it has, and why.
@@ -37,10 +39,11 @@ PLACES = {
     "example_verified_block": (2, EXAMPLE),
     "find_commands": (38, VALUES),
     "image_commands": (12, VALUES),
+    "memory_images": (5, TESTED),
     "partition_commands": (15, VALUES),
     "program_io": (4, VALUES),
     "runs": (9, VALUES),
-    "scan_commands": (27, VALUES),
+    "scan_commands": (29, VALUES),
     "stack_commands": (15, VALUES),
     "stack_lines": (3, CACHE),
     "update_commands": (4, VALUES),

@@ -1,5 +1,1 @@
 pub mod Relations
-pub mod Files
-pub mod MemoryRelations
-pub mod Named
-pub mod Parts

@@ -1,9 +1,9 @@
 //! What commands print, and what the images then hold, with a failure at each call of a device.
 use crate::failing_images::FailingImages;
-use crate::named_images::MemoryImages;
 use crate::quiet_system::QuietSystem;
 use image_commands::SystemGenerators;
 use image_files::Images;
+use memory_images::MemoryImages;
 use program_io::Counted;
 use stack_commands::command;
 use std::alloc::Global;

@@ -1,10 +1,10 @@
 //! Images in memory whose devices each fail at one call.
 ghost use Rattle.command_tests.specs.Relations.{any_relations};
 
-use crate::named_images::MemoryImages;
 use block_device::{BlockDev, FailAt, MemoryDev, OpenFault};
 use device_adapters::Part;
 use image_files::{FileText, Images, OpenImage, PartFault, ReplaceFault};
+use memory_images::MemoryImages;
 
 /// The number of the call that fails, counted from the opening of a device; 0 if none fails.
 #[derive(Drop)]

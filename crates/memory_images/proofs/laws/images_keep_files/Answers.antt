@@ -1,12 +1,12 @@
 use Rattle.std.proofs.Common.{ap, ◌∙◌}
 use Rattle.block_device.specs.contracts.memory.MemoryDevBlockDev.TheImpl.{ghosts}
 use Rattle.block_device.specs.declared.memory.MemoryDev.{MemoryDev}
-use Rattle.command_tests.specs.Files.{file_under}
-use Rattle.command_tests.specs.Parts.{grown_image, shrunk_image, with_part}
+use Rattle.memory_images.specs.Files.{file_under}
+use Rattle.memory_images.specs.Parts.{grown_image, shrunk_image, with_part}
 use Rattle.block_device.specs.Memory.{memory_bytes}
-use Rattle.command_tests.proofs.FileLemmas.{copy-opened, image-taken, none-kept, others-kept, others-unchanged, others-unreplaced, part-measured, text-replaced, text-told}
-use Rattle.command_tests.proofs.PartLemmas.{image-grown, image-shrunk, part-opened, part-taken}
-use Rattle.command_tests.proofs.laws.images_keep_files.Goals as goal
+use Rattle.memory_images.proofs.FileLemmas.{copy-opened, image-taken, none-kept, others-kept, others-unchanged, others-unreplaced, part-measured, text-replaced, text-told}
+use Rattle.memory_images.proofs.PartLemmas.{image-grown, image-shrunk, part-opened, part-taken}
+use Rattle.memory_images.proofs.laws.images_keep_files.Goals as goal
 
 pub returns : goal.returns
 returns c = record {

@@ -1,7 +1,7 @@
 //! Images in memory.
 ghost use Rattle.std.specs.Prelude.{◌≡◌, IfErr, IfOk, OnErr, OnOk};
-ghost use Rattle.command_tests.specs.Named.{IsChanged, AreBytesPut, IsUncopied, Stands, named_place};
-ghost use Rattle.command_tests.specs.Parts.{grown_image, shrunk_image, with_part};
+ghost use Rattle.memory_images.specs.Named.{IsChanged, AreBytesPut, IsUncopied, Stands, named_place};
+ghost use Rattle.memory_images.specs.Parts.{grown_image, shrunk_image, with_part};
 
 use crate::part::{held_in, lengthen, overwrite, part_of, shorten};
 use block_device::{BlockDev, FileId, MemoryDev, OpenFault};
@@ -99,7 +99,7 @@ fn put_part(images: &mut Vec<Vec<u8>>, place: usize, part: Part, bytes: Vec<u8>)
 }
 
 impl Images for MemoryImages {
-    ghost use Rattle.command_tests.specs.MemoryRelations.{memory_relations};
+    ghost use Rattle.memory_images.specs.MemoryRelations.{memory_relations};
 
     type Dev = MemoryDev;
 

@@ -2,9 +2,9 @@
 use Rattle.std.specs.Prelude.{ℕ, true, List, Option, Some, None, Vec}
 use Rattle.std.specs.Option.{option_map}
 use Rattle.image_files.specs.Promises.{FileRecord}
-use Rattle.command_tests.specs.declared.named_images.MemoryImages.{MemoryImages}
-use Rattle.command_tests.specs.MemoryRelations.{id_at}
-use Rattle.command_tests.specs.Named.{image_bytes, named_place}
+use Rattle.memory_images.specs.declared.named_images.MemoryImages.{MemoryImages}
+use Rattle.memory_images.specs.MemoryRelations.{id_at}
+use Rattle.memory_images.specs.Named.{image_bytes, named_place}
 
 abbrev pub file_at : {Z : Type 0} → List (Vec ℕ Z) → ℕ → Option FileRecord
 file_at images place = option_map (λ bytes. record { id = id_at place; bytes = bytes; regular = true }) (image_bytes images place)

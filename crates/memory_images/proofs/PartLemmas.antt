@@ -13,12 +13,12 @@ use Rattle.image_files.proofs.lemmas.OverwriteLemmas.{IsOverwritten, overwritten
 use Rattle.image_files.specs.declared.images.OpenImage.{OpenImage}
 use Rattle.image_files.specs.Opener.{IsNarrowed}
 use Rattle.image_files.specs.Promises.{FileRecord, HoldsPart, IsGrown, IsSameFile, IsShrunk, TakesPart}
-use Rattle.command_tests.specs.declared.named_images.MemoryImages.{MemoryImages}
-use Rattle.command_tests.specs.Files.{file_under}
-use Rattle.command_tests.specs.MemoryRelations.{ChangesAt, GrowsAt, IsNarrowedCopy, IsPartCopy, ShrinksAt}
-use Rattle.command_tests.specs.Named.{named_place}
-use Rattle.command_tests.specs.Parts.{LiesWithin, grown_image, part_bytes, shrunk_image, with_bytes, with_part}
-use Rattle.command_tests.proofs.FileLemmas.{changed, file-of, regular-under, under}
+use Rattle.memory_images.specs.declared.named_images.MemoryImages.{MemoryImages}
+use Rattle.memory_images.specs.Files.{file_under}
+use Rattle.memory_images.specs.MemoryRelations.{ChangesAt, GrowsAt, IsNarrowedCopy, IsPartCopy, ShrinksAt}
+use Rattle.memory_images.specs.Named.{named_place}
+use Rattle.memory_images.specs.Parts.{LiesWithin, grown_image, part_bytes, shrunk_image, with_bytes, with_part}
+use Rattle.memory_images.proofs.FileLemmas.{changed, file-of, regular-under, under}
 
 -- sectors of a text's first bytes, whatever follows them
 sectors-front : (count : ℕ) (bytes rest : List ℕ) → count * 512 ≤ length bytes → sectors_of count (take (count * 512) bytes ++ rest) ≡ sectors_of count bytes

@@ -11,11 +11,11 @@ use Rattle.block_device.specs.Memory.{memory_bytes}
 use Rattle.image_files.specs.declared.images.FileText.{FileText}
 use Rattle.image_files.specs.declared.images.OpenImage.{OpenImage}
 use Rattle.image_files.specs.Promises.{AreApart, FileRecord, HoldsSectors, IsApartFrom, IsSameFile}
-use Rattle.command_tests.specs.declared.named_images.MemoryImages.{MemoryImages}
+use Rattle.memory_images.specs.declared.named_images.MemoryImages.{MemoryImages}
 use Rattle.image_files.specs.declared.texts.ReplaceFault.{ReplaceFault}
-use Rattle.command_tests.specs.Files.{file_at_place, file_under}
-use Rattle.command_tests.specs.MemoryRelations.{ChangesAt, IsCopy, IsMeasured, IsReplaced, IsText, PutsAt, ReplacesAt, id_at}
-use Rattle.command_tests.specs.Named.{IsChanged, Stands, image_bytes, named_place}
+use Rattle.memory_images.specs.Files.{file_at_place, file_under}
+use Rattle.memory_images.specs.MemoryRelations.{ChangesAt, IsCopy, IsMeasured, IsReplaced, IsText, PutsAt, ReplacesAt, id_at}
+use Rattle.memory_images.specs.Named.{IsChanged, Stands, image_bytes, named_place}
 
 -- what is at a place as a file
 abbrev pub file-of : ℕ → List ℕ → FileRecord

@@ -1,6 +1,6 @@
 use Rattle.std.proofs.Common.{ℕ, ◌+◌, ◌≤◌, refl, subst, sym}
-use Rattle.command_tests.proofs.PartLemmas.{narrowed-memory}
-use Rattle.command_tests.proofs.named_images.MemoryImagesImages.narrow.Goals as goal
+use Rattle.memory_images.proofs.PartLemmas.{narrowed-memory}
+use Rattle.memory_images.proofs.named_images.MemoryImagesImages.narrow.Goals as goal
 
 pub held_in-requires : goal.held_in-requires
 held_in-requires c = subst (λ (n : ℕ). c.args.part.first + c.args.part.count ≤ n) (sym c.into_bytes.ensures.size) c.requires

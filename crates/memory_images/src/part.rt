@@ -1,6 +1,6 @@
 //! Parts of the bytes of an image.
 ghost use Rattle.std.specs.Prelude.{◌≡◌, ◌↔◌, IfSome, IsSome, OnErr, OnOk, length};
-ghost use Rattle.command_tests.specs.Parts.{LiesWithin, grown_image, part_bytes, shrunk_image, with_bytes, with_part};
+ghost use Rattle.memory_images.specs.Parts.{LiesWithin, grown_image, part_bytes, shrunk_image, with_bytes, with_part};
 
 use block_device::OpenFault;
 use device_adapters::Part;

@@ -13,9 +13,9 @@ use Rattle.image_files.specs.declared.images.OpenImage.{OpenImage}
 use Rattle.image_files.specs.declared.parts.PartFault.{PartFault}
 use Rattle.image_files.specs.declared.parts.PartFault.TheVariants.{Open, Outside}
 use Rattle.device_adapters.specs.declared.part.Part.{Part}
-use Rattle.command_tests.specs.declared.named_images.MemoryImages.{MemoryImages}
-use Rattle.command_tests.specs.Named.{IsChanged, AreBytesPut, IsUncopied, Stands, named_place}
-use Rattle.command_tests.specs.Parts.{LiesWithin, grown_image, part_bytes, shrunk_image, with_part}
+use Rattle.memory_images.specs.declared.named_images.MemoryImages.{MemoryImages}
+use Rattle.memory_images.specs.Named.{IsChanged, AreBytesPut, IsUncopied, Stands, named_place}
+use Rattle.memory_images.specs.Parts.{LiesWithin, grown_image, part_bytes, shrunk_image, with_part}
 use Rattle.image_files.specs.Opener.{Opener}
 use Rattle.image_files.specs.declared.texts.ReplaceFault.{ReplaceFault}
 

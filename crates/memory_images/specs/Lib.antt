@@ -1,0 +1,4 @@
+pub mod Files
+pub mod MemoryRelations
+pub mod Named
+pub mod Parts
