@@ -24,12 +24,10 @@ pub(crate) fn table_line(alloc: Global, table: &PartitionTable) -> Result<String
 fn table_value(alloc: Global, partitions: &[Partition], source: Source) -> Result<Value, AllocError>
     ensures { IfOk result (λ value. view value ≡ table_json partitions.now source) }
 {
-    let fault = other_copy(alloc, source)?;
-    let partitions = partitions_value(alloc, partitions)?;
     json!(in alloc; {
         "copies": good_copies(source),
-        "fault": fault,
-        "partitions": partitions
+        "fault": other_copy(alloc, source)?,
+        "partitions": partitions_value(alloc, partitions)?
     })
 }
 
@@ -87,17 +85,14 @@ fn partitions_value(alloc: Global, partitions: &[Partition]) -> Result<Value, Al
 fn partition_value(alloc: Global, partition: &Partition) -> Result<Value, AllocError>
     ensures { IfOk result (λ value. view value ≡ partition_json partition.now) }
 {
-    let label = label_text(alloc, &partition.label)?;
-    let kind = uuid_value(alloc, &partition.kind)?;
-    let uuid = uuid_value(alloc, &partition.uuid)?;
     json!(in alloc; {
         "first": partition.first,
-        "label": &label,
+        "label": label_text(alloc, &partition.label)?,
         "number": partition.number,
         "sectors": partition.sectors(),
-        "type": kind,
+        "type": uuid_value(alloc, &partition.kind)?,
         "type_name": kind_name(&partition.kind),
-        "uuid": uuid
+        "uuid": uuid_value(alloc, &partition.uuid)?
     })
 }
 
