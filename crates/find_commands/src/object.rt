@@ -101,19 +101,15 @@ fn add_finding(
 fn finding_value(alloc: Global, finding: &Finding, segments: Value) -> Result<Value, AllocError>
     ensures { IfOk result (λ value. view value ≡ finding_json finding.now (view segments)) }
 {
-    let blocks = number_value(finding.blocks);
-    let size = number_value(finding.size);
-    let uuid = uuid_value(alloc, finding.uuid)?;
-    let checksum = checksum_value(alloc, finding.checksum)?;
     json!(in alloc; {
-        "blocks": blocks,
-        "checksum": checksum,
+        "blocks": number_value(finding.blocks),
+        "checksum": checksum_value(alloc, finding.checksum)?,
         "kind": finding.kind.name(),
         "offset": finding.offset,
         "opener": finding.kind.opener(),
         "segments": segments,
-        "size": size,
-        "uuid": uuid
+        "size": number_value(finding.size),
+        "uuid": uuid_value(alloc, finding.uuid)?
     })
 }
 

@@ -169,15 +169,13 @@ fn add_segment(
 fn segment_value(alloc: Global, id: u64, cipher: &str, extent: &Extent) -> Result<Value, AllocError>
     ensures { IfOk result (λ value. view value ≡ segment_json id cipher.now extent.now) }
 {
-    let line = line_value(alloc, cipher, extent)?;
-    let size = number_value(extent.size);
     json!(in alloc; {
         "encryption": cipher,
         "id": id,
         "iv_tweak": extent.iv_tweak,
-        "line": line,
+        "line": line_value(alloc, cipher, extent)?,
         "offset": extent.offset,
         "sector_size": extent.sector_size,
-        "size": size
+        "size": number_value(extent.size)
     })
 }
