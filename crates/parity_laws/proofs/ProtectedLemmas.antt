@@ -88,10 +88,10 @@ module _ (v : Verity) (p : Parity) (l : Layout) (f : ProtectedImage) (laid : IsL
   }
 
   -- byte i of codeword c
-  word-byte : ℕ → List ℕ → ℕ → ℕ → ℕ
+  abbrev word-byte : ℕ → List ℕ → ℕ → ℕ → ℕ
   word-byte n parity c i = cond (nat_lt i (255 - l.roots)) (message_byte l f.data_image f.hash_image n c i) (slice_index parity (c * l.roots + (i - (255 - l.roots))))
 
-  word-of : ℕ → List ℕ → ℕ → ℕ → ℕ
+  abbrev word-of : ℕ → List ℕ → ℕ → ℕ → ℕ
   word-of n parity c i = cond (nat_lt i (255 - p.roots)) (former_byte p (protected_block l f) n c i) (slice_index parity (c * p.roots + (i - (255 - p.roots))))
 
   byte-same : (n : ℕ) (parity : List ℕ) (c i : ℕ) → word-byte n parity c i ≡ word-of n parity c i
