@@ -136,7 +136,7 @@ rounds-some p few some = elim (cases_lt 0 (round_count p)) [
 ]
 
 -- covered block j
-module _ (v : Verity) (p : Parity) (l : Layout) (f : ProtectedImage) (from : BlockSources) (laid : IsLayoutOfLine v p l) (image : IsProtectedImage l f) (some : 0 < round_count p) where
+module _ (v : Verity) (p : Parity) (l : Layout) (f : ProtectedImage) (from : BlockSources) (law : RoundsSumToZeros) (laid : IsLayoutOfLine v p l) (image : IsProtectedImage l f) (some : 0 < round_count p) where
   kept-restorable : (j : ℕ) → HasKeptRound v p l f from j → IsKeptOrRestorable v p from (protected_block l f) j
   kept-restorable j kept = elim kept [
     | inl own ↦ inl own
@@ -144,12 +144,15 @@ module _ (v : Verity) (p : Parity) (l : Layout) (f : ProtectedImage) (from : Blo
         inr (record {
           parity = protected_parity l f (j % round_count p);
           code = round-code v p l f laid image (j % round_count p) (mod-lt j some);
-          known = beside;
+          known = elim beside [
+            | inl known ↦ inl known
+            | inr whole ↦ inr (round-former v p l f laid law image (j % round_count p) (mod-lt j some), whole)
+          ];
         })
   ]
 
-pub protected-read : DamagedDataIsRead → ProtectedDataIsRead
-protected-read damaged c loaded images whole d s k line v lies p l f is kept =
+pub protected-read : RoundsSumToZeros → DamagedDataIsRead → ProtectedDataIsRead
+protected-read law damaged c loaded images whole d s k line v lies p l f is kept =
     let i : ℕ = (s - line.start) / block_sectors v in
     let from = line_sources c images v in
     let low = block-low c loaded images whole d s k line v lies in
@@ -168,6 +171,6 @@ protected-read damaged c loaded images whole d s k line v lies p l f is kept =
       root_is = is.root_is;
       own = own;
       above = kept.above;
-      block = kept-restorable v p l f from is.laid is.protected some i kept.block;
-      path = λ n inside. kept-restorable v p l f from is.laid is.protected some (covered_hash v n (ancestor (tree_of v) (n + 1) i)) (kept.path n inside);
+      block = kept-restorable v p l f from law is.laid is.protected some i kept.block;
+      path = λ n inside. kept-restorable v p l f from law is.laid is.protected some (covered_hash v n (ancestor (tree_of v) (n + 1) i)) (kept.path n inside);
     })

@@ -16,7 +16,7 @@ use Rattle.stack_meaning.specs.Blocks.{covered_hash}
 use Rattle.stack_meaning.specs.Meaning.{sector}
 use Rattle.stack_meaning.specs.Outcomes.{AreWhole, Images}
 use Rattle.stack_meaning.specs.Erasures.{IsFormerCode, IsKnownBeside}
-use Rattle.stack_meaning.specs.Spares.{BlockSources, IsFormerRound, covered_block}
+use Rattle.stack_meaning.specs.Spares.{BlockSources, IsFormerRound, IsWholeBeside, covered_block}
 use Rattle.stack_engine.specs.DamagedData.{PathCollides, line_sources, tree_block}
 use Rattle.stack_engine.specs.Laws.{LiesInVerity, formatted_sector, verity_digests}
 use Rattle.verity_format.specs.Blocks.{block_at, blocks_at}
@@ -70,11 +70,12 @@ pub record IsProtectedLine (v : Verity) (p : Parity) (l : Layout) (f : Protected
   pub sized : AreBlocks v.blocks v.data_block (protected_data v f)
   pub root_is : v.root ≡ root v.hash_block v.salt (verity_digests v (protected_data v f))
 
--- Covered block j is unchanged. Or each other block of its round has the known digest of the one that it was, or is unchanged; at most
--- as many of the round are lost as a codeword has bytes of parity, and the round's parity is unchanged.
+-- Covered block j is unchanged. Or its round's parity is unchanged, and each other block of the round has the known digest of the one that it
+-- was, or is unchanged, and at most as many of the round are lost as a codeword has bytes of parity; or each other block is unchanged.
 abbrev pub HasKeptRound : Verity → Parity → Layout → ProtectedImage → BlockSources → ℕ → Type 0
 HasKeptRound v p l f from j =
-    (covered_block v from j ≡ Ok (protected_block l f j)) ⊎ IsKnownBeside v p from (protected_block l f) j (protected_parity l f (j % round_count p))
+    (covered_block v from j ≡ Ok (protected_block l f j))
+    ⊎ (IsKnownBeside v p from (protected_block l f) j (protected_parity l f (j % round_count p)) ⊎ IsWholeBeside v p from (protected_block l f) j (protected_parity l f (j % round_count p)))
 
 -- The hash blocks on the path to data block i, when the parity was written, are those of the tree of the data. That data block and each of
 -- these is unchanged, or enough of its round is.

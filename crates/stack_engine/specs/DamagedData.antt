@@ -15,7 +15,7 @@ use Rattle.stack_meaning.specs.Blocks.{covered_hash, hash_sectors}
 use Rattle.stack_meaning.specs.Meaning.{sector}
 use Rattle.stack_meaning.specs.Outcomes.{Images, AreWhole, span}
 use Rattle.stack_meaning.specs.Erasures.{IsFormerCode, IsKnownBeside}
-use Rattle.stack_meaning.specs.Spares.{BlockSources, covered_block}
+use Rattle.stack_meaning.specs.Spares.{BlockSources, IsFormerRound, IsWholeBeside, covered_block}
 use Rattle.stack_lines.specs.Walks.{block_in, sources_of}
 use Rattle.stack_engine.specs.Laws.{IsSha256Collision, LiesInVerity, formatted_sector, named_sector, verity_digests}
 
@@ -33,12 +33,13 @@ pub record IsTreeOnHash (c : Configuration) (images : Images) (v : Verity) (bloc
 abbrev pub tree_block : Verity → List (List ℕ) → ℕ → ℕ → List ℕ
 tree_block v blocks l i = slice_index_or (level v.hash_block v.salt (verity_digests v blocks) l) (ancestor (tree_of v) (l + 1) i) []
 
--- The parity of the round of covered block j was made of the former blocks. Each other block of the round has the known digest of the
--- former one, or is the former one; at most as many of the round are lost as a codeword has bytes of parity, which are readable.
+-- The parity of the round of covered block j was made of the former blocks, and is readable. Each other block of the round has the known
+-- digest of the former one, or is the former one, and at most as many of the round are lost as a codeword has bytes of parity; or each other
+-- block is the former one, whatever digest is known of it.
 pub record IsRestorable (v : Verity) (p : Parity) (from : BlockSources) (former : ℕ → List ℕ) (j : ℕ) : Type 0 where
   pub parity : List ℕ
   pub code : IsFormerCode v p former (j % round_count p) parity
-  pub known : IsKnownBeside v p from former j parity
+  pub known : IsKnownBeside v p from former j parity ⊎ (IsFormerRound v p former (j % round_count p) parity × IsWholeBeside v p from former j parity)
 
 -- covered block j is as it was, or can be restored
 abbrev pub IsKeptOrRestorable : Verity → Parity → BlockSources → (ℕ → List ℕ) → ℕ → Type 0

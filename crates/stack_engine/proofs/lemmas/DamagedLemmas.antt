@@ -15,11 +15,12 @@ use Rattle.stack_rules.specs.Trees.{block_sectors, tree_of, zero_block}
 use Rattle.stack_config.proofs.lemmas.ParityLineLemmas.{parity-line}
 use Rattle.stack_meaning.specs.Blocks.{block_below, checked, checked_span, covered_hash, data_block_at, hash_block_at, hash_sectors, hash_start, is_ignored, next_digest, verified_block}
 use Rattle.stack_meaning.specs.Outcomes.{Outcome, span, then_outcome}
-use Rattle.stack_meaning.specs.Erasures.{covered_spare}
-use Rattle.stack_meaning.specs.Spares.{BlockSources, covered_block, healed_outcome, verified_blocks}
+use Rattle.stack_meaning.specs.Erasures.{covered_spare, erasure_spare}
+use Rattle.stack_meaning.specs.Spares.{BlockSources, covered_block, healed_outcome, spare_block, verified_blocks}
 use Rattle.stack_meaning.proofs.lemmas.CheckedLemmas.{checked-digest, checked-same, then-parts}
 use Rattle.stack_meaning.proofs.lemmas.CoveredLemmas.{covered-data, covered-hash, hash-verified}
 use Rattle.stack_meaning.proofs.lemmas.ErasureLemmas.{losses-restored}
+use Rattle.stack_meaning.proofs.lemmas.SpareLemmas.{lost-restored}
 use Rattle.stack_engine.specs.DamagedData.{DamagedDataIsRead, IsKeptOrRestorable, IsRestorable, LostCollides, RoundCollides, line_sources, tree_block}
 use Rattle.stack_engine.specs.Laws.{IsSha256Collision}
 use Rattle.stack_engine.proofs.lemmas.FormattedLemmas.{block-low, facts, length-path_to, line-is, sector-shown, shown_block}
@@ -55,11 +56,16 @@ module _ (v : Verity) (p : Parity) (has : v.parity ≡ Some p) (few : p.roots �
 
     -- it is restored, or a block of its round collides with others
     spare-is : IsRestorable v p from former j → (spare ≡ Ok block) ⊎ RoundCollides v p former j
-    spare-is lost = elim (losses-restored v p few from former lost.parity j covered lost.code lost.known) [
-      | inl is ↦ inl (ap (λ o. covered_spare v from o j expected) has ∙ is)
-      | inr shared ↦
-          let k = shared.0 in
-          inr (record { number = k; covered = shared.1; beside = shared.2; collides = record { other = shared.3.other; collision = digest-collides v shared.3.other (former k) shared.3.differs shared.3.same } })
+    spare-is lost = elim lost.known [
+      | inl known ↦ elim (losses-restored v p few from former lost.parity j covered lost.code known) [
+        | inl is ↦ inl (ap (λ o. covered_spare v from o j expected) has ∙ is)
+        | inr shared ↦
+            let k = shared.0 in
+            inr (record { number = k; covered = shared.1; beside = shared.2; collides = record { other = shared.3.other; collision = digest-collides v shared.3.other (former k) shared.3.differs shared.3.same } })
+      ]
+      | inr whole ↦
+          let alone : spare_block v p from j expected ≡ Ok block = lost-restored v p few from former lost.parity j covered whole.0 whole.1 in
+          inl (ap (λ o. covered_spare v from o j expected) has ∙ ap (λ (x : Outcome). healed_outcome x (erasure_spare v p from j expected)) alone)
     ]
 
     -- it has its bytes, or collides with others
