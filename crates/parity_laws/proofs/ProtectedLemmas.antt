@@ -143,9 +143,8 @@ module _ (v : Verity) (p : Parity) (l : Layout) (f : ProtectedImage) (from : Blo
     | inr beside ↦
         inr (record {
           parity = protected_parity l f (j % round_count p);
-          code = round-code v p l f laid image (j % round_count p) (mod-lt j some);
-          known = elim beside [
-            | inl known ↦ inl known
+          beside = elim beside [
+            | inl known ↦ inl (round-code v p l f laid image (j % round_count p) (mod-lt j some), known)
             | inr whole ↦ inr (round-former v p l f laid law image (j % round_count p) (mod-lt j some), whole)
           ];
         })

@@ -14,9 +14,9 @@ pub fn protected_rounds_are_former()
 }
 
 /// If a `verity` line has the parity that was written with an image, and the root of its data's tree, a sector of a data block is the
-/// image's, if the block and each hash block on its path are unchanged, or no more blocks of their rounds are lost than the parity
-/// restores, or all others of their rounds are unchanged; or another
-/// block has the digest of one of these rounds, and the two, each after the salt, are two different inputs of one SHA-256 digest.
+/// image's, if the block and each hash block on its path are unchanged, or restored: the parity of their rounds is unchanged, and so are the
+/// other blocks; or those have known digests, and no more of the round are lost than a codeword has bytes of parity. Or another block has
+/// the digest of a block of one of these rounds, and the two, each after the salt, are two different inputs of one SHA-256 digest.
 pub fn protected_data_is_read()
     ensures { ProtectedDataIsRead }
 {

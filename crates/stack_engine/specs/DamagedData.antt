@@ -33,13 +33,12 @@ pub record IsTreeOnHash (c : Configuration) (images : Images) (v : Verity) (bloc
 abbrev pub tree_block : Verity → List (List ℕ) → ℕ → ℕ → List ℕ
 tree_block v blocks l i = slice_index_or (level v.hash_block v.salt (verity_digests v blocks) l) (ancestor (tree_of v) (l + 1) i) []
 
--- The parity of the round of covered block j was made of the former blocks, and is readable. Each other block of the round has the known
--- digest of the former one, or is the former one, and at most as many of the round are lost as a codeword has bytes of parity; or each other
--- block is the former one, whatever digest is known of it.
+-- The round of covered block j is one of codewords of the former blocks and of parity that is readable, each other block of the round has the
+-- known digest of the former one, or is the former one, and at most as many of the round are lost as a codeword has bytes of parity; or the
+-- former blocks and the parity sum to zeros, and each other block is the former one, whatever digest is known of it.
 pub record IsRestorable (v : Verity) (p : Parity) (from : BlockSources) (former : ℕ → List ℕ) (j : ℕ) : Type 0 where
   pub parity : List ℕ
-  pub code : IsFormerCode v p former (j % round_count p) parity
-  pub known : IsKnownBeside v p from former j parity ⊎ (IsFormerRound v p former (j % round_count p) parity × IsWholeBeside v p from former j parity)
+  pub beside : (IsFormerCode v p former (j % round_count p) parity × IsKnownBeside v p from former j parity) ⊎ (IsFormerRound v p former (j % round_count p) parity × IsWholeBeside v p from former j parity)
 
 -- covered block j is as it was, or can be restored
 abbrev pub IsKeptOrRestorable : Verity → Parity → BlockSources → (ℕ → List ℕ) → ℕ → Type 0

@@ -17,9 +17,10 @@ pub fn formatted_data_is_read()
     formed_chains_are_good();
 }
 
-/// If a line has parity, and the round of a data block and those of the hash blocks on its path have lost at most as many blocks each as a
-/// codeword has bytes of parity, a sector of that block is as it was, even if blocks on its path are lost; or another block has the
-/// digest of a former block of one of these rounds, and the two, each after the salt, are two different inputs of one SHA-256 digest.
+/// If a line has parity, a sector of a data block is as it was, even if that block and hash blocks on its path are lost: if of the round of
+/// each that is lost the parity is kept, and the others are kept too; or have known digests, and at most as many are lost as a codeword
+/// has bytes of parity. Or another block has the digest of a former block of one of these rounds, and the two, each after the salt, are
+/// two different inputs of one SHA-256 digest.
 pub fn damaged_data_is_read()
     ensures { DamagedDataIsRead }
 {

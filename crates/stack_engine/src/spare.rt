@@ -1,4 +1,4 @@
-//! The spare of a block: the sum, by exclusive-or, of the other blocks of its round and of their parity.
+//! The spare of a block: the sum, by exclusive-or, of the other blocks of its round and of their parity; and which blocks of a round are lost.
 ghost use Rattle.std.specs.Prelude.{◌≡◌, ◌≤◌, ◌<◌, ◌*◌, ◌/◌, ◌%◌, length, slice_index, IfOk, IfSome, IsSome, None, OnErr, Some};
 ghost use Rattle.dm_table.specs.declared.parity.Parity.{Parity};
 ghost use Rattle.dm_table.specs.Grammar.{IsParityOfGrammar};
@@ -266,8 +266,8 @@ pub(crate) fn own_loss(
     })
 }
 
-/// Whether a block is lost that has that digest, or whose leaf failed, if the digest that is expected of it could be read: one without a
-/// known digest isn't lost, and can't be if its leaf failed.
+/// Whether a block is lost that has that digest, or whose leaf failed, by the digest that is expected of it. One whose expected digest
+/// isn't known is taken as it is stored; if its leaf failed, the attempt ends with that leaf's fault.
 pub(crate) fn judge_by(
     own: Result<Digest, u32>,
     known: Result<Digest, IoFault>,

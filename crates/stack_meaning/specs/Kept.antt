@@ -25,7 +25,7 @@ pub use Rattle.stack_meaning.specs.targets.Verity.{IsOfVerity}
 abbrev pub verity_block : Configuration → Images → Verity → ℕ → Outcome
 verity_block c images v i = verified_block v (sources_over (below none_said (said_by_name c) (verity_target v)) images) i
 
--- the leaves of a line with this target are steady, and no block that parity restores on them is another one than the stored block
+-- the leaves of a line with this target are steady, and of what is stored on them or may be restored in place of a block no two share a digest
 pub record AreCertain (c : Configuration) (target : Target) (leaves : List Device) : Type 0 where
   pub steady : AreSteady (target_leaves c target) leaves
   pub agrees : AgreesOn c (target_leaves c target) (steady_images leaves)

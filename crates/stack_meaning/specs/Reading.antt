@@ -34,8 +34,8 @@ Answers bytes_of meaning (Err (io.Stack fault)) = meaning ≡ Err fault
 Answers bytes_of meaning (Err (io.Device i)) = Unit {0}
 Answers bytes_of meaning (Err io.NoMemory) = Unit {0}
 
--- the leaves below are steady; and if a `verity` line may be met, no block that parity restores is another one than the stored
--- block
+-- the leaves below are steady; and if a `verity` line may be met, of what is stored or may be restored in place of a block no two share a
+-- digest
 pub record IsCertain {A : Type 0} (wanted : Expected A) (leaves : List Device) : Type 0 where
   pub steady : AreSteady wanted.leaves leaves
   pub agrees : wanted.faults mismatch → wanted.agrees (steady_images leaves)

@@ -56,8 +56,8 @@ module _ (v : Verity) (p : Parity) (has : v.parity ≡ Some p) (few : p.roots �
 
     -- it is restored, or a block of its round collides with others
     spare-is : IsRestorable v p from former j → (spare ≡ Ok block) ⊎ RoundCollides v p former j
-    spare-is lost = elim lost.known [
-      | inl known ↦ elim (losses-restored v p few from former lost.parity j covered lost.code known) [
+    spare-is lost = elim lost.beside [
+      | inl known ↦ elim (losses-restored v p few from former lost.parity j covered known.0 known.1) [
         | inl is ↦ inl (ap (λ o. covered_spare v from o j expected) has ∙ is)
         | inr shared ↦
             let k = shared.0 in
