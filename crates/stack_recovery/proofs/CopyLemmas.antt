@@ -45,7 +45,7 @@ copied-had reads n at k bytes after ok old mid new here count p w image =
           ∙ sym (copied_image-push 0 reads r old.image);
     }
 
--- a piece behind the sectors so far that is written where it is stored
+-- a piece after the sectors so far, that is written where it is stored
 pub copied-behind : (reads : List PieceRead) (n at behind m : ℕ) (bytes : List ℕ) (after : StackRecord) (old mid new : Device) → at ≡ length (all_states reads) → m ≡ n - behind → IsCopied reads old mid
     → IsWritten mid (at + behind) m true new → (IsTrue mid.steady → new.image ≡ spliced mid.image (at + behind) (sectors_of m bytes))
     → IsCopied (reads ++ (record { count = n; found = probed behind bytes; after = after }) ∷ []) old new

@@ -173,7 +173,7 @@ module _ (p : Pass) (at n : ℕ) (some : 1 ≤ n) where
       different low true e is from = absurd (false≢true (sym is))
       different low false e is from = omega (arith, from, eqb-false low at e)
 
-  -- not behind the end of the run
+  -- not after the end of the run
   pub probed-within : (way : Way) → IsWayRun p at way → IsUnreadTo p at (at + n) → low_of way (at + n) ≤ at + n
   probed-within Forward run ends = omega arith
   probed-within Turned run ends = omega arith

@@ -107,7 +107,7 @@ way_from scan way first (r ∷ more) = way_from scan (way_found scan way first r
 abbrev pub ArePassPieces : Scanned → Pass → List PieceRead → Type 0
 ArePassPieces scan p reads = AreInPieces scan p 0 Forward reads
 
--- the sectors that a pass has read backwards, if it has, lie behind the one that it has come to, and inside the device
+-- the sectors that a pass has read backwards, if it has, aren't before the one that it has come to, and are inside the device
 abbrev pub IsWayInside : ℕ → Way → ℕ → Type 0
 IsWayInside at Forward sectors = Unit {0}
 IsWayInside at Turned sectors = Unit {0}

@@ -60,7 +60,7 @@ module _ (marks : List Bool) (d first : ℕ) (w : StackRecord) (sure : AreSure w
       ap (λ (t : ℕ). meant_at d w t) (sym here)
       ∙ meant-byte (sector w.config (steady_images w.leaves) (mapped d)) (first + behind) (n - behind) bytes (read.steady (record { steady = sure.steady; agrees = λ meets. sure.agrees })).exact (s - (first + behind)) (omega (arith, from, to))
 
-  -- those of a piece that was read now, and those behind it
+  -- those of a piece that was read now, and those after it
   probed-way : (p : Pass) (way : Way) (behind n : ℕ) (bytes : List ℕ) (after : StackRecord) → IsCopiedMeant d w way → behind < n → IsProbedTo p first way (first + n) → EachBytes w d (first + behind) (n - behind) (Ok bytes) after
       → IsLeft d w after → IsCopiedMeant d after (way_probed way (first + behind) (first + n))
   probed-way p Forward behind n bytes after known some h read left = absurd h
